@@ -1,0 +1,3 @@
+-- The elements of the two kinds, by their numbers.
+pub mod Shorts
+pub mod Wides
