@@ -1,0 +1,3 @@
+// Products, inverses and powers of the two kinds against values of another program, outside/vectors/field.py.
+#[cfg(test)]
+mod tests;

@@ -1,0 +1,2 @@
+-- The coefficients by place.
+pub mod Places

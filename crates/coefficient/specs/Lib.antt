@@ -1,0 +1,2 @@
+-- The mask coefficients by place.
+pub mod Coefficients
