@@ -1,0 +1,2 @@
+-- Lemmas on the walk.
+pub mod Whole

@@ -1,0 +1,3 @@
+-- The definitions that contracts on the walk cite.
+pub mod Contents
+pub mod Walks
