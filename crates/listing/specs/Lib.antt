@@ -1,0 +1,2 @@
+-- The definitions that contracts on the manifest's lines cite.
+pub mod Lines
