@@ -1,0 +1,3 @@
+-- Definitions that the ciphers share.
+pub mod Bytes
+pub mod Permutes
