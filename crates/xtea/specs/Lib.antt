@@ -1,0 +1,4 @@
+-- XTEA by its published rule.
+pub mod Repeat
+pub mod Xtea
+pub mod Blocks
