@@ -1,0 +1,2 @@
+-- Lemmas: turning the bytes of a block back.
+pub mod Turns

@@ -1,0 +1,2 @@
+-- The example's two maps.
+pub mod Turning
