@@ -1,0 +1,2 @@
+-- The passes in order.
+pub mod Order

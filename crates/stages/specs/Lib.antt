@@ -1,0 +1,2 @@
+-- The stages of a sealing in three passes.
+pub mod Stages
