@@ -1,0 +1,2 @@
+-- The worked cases.
+pub mod Cases
