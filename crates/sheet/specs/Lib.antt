@@ -1,0 +1,4 @@
+pub mod Sectors
+pub mod Promise
+pub mod Images
+pub mod Parts
