@@ -1,0 +1,2 @@
+-- Lemmas for the calls.
+mod Fronts
