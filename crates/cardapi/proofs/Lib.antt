@@ -1,0 +1,2 @@
+-- Lemmas on rings given as keys.
+pub mod Eights

@@ -1,0 +1,2 @@
+-- The definitions that contracts of the exports on elements cite.
+pub mod Elements
