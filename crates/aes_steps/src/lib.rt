@@ -1,5 +1,7 @@
 // The steps of a round of AES (FIPS 197) on the state of 16 bytes, and their inverses.
 // The state holds four columns of four rows, one column after the other.
+#![tactic(auto)]
+
 mod field;
 mod sbox;
 mod steps;

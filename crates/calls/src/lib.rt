@@ -1,4 +1,6 @@
 // Lists of calls on one image with one ring, and the whole promise on them: see `run`.
+#![tactic(auto)]
+
 ghost use Rattle.std.specs.Prelude.{◌≡◌, ℕ, List};
 ghost use Rattle.kind.specs.Laws.{Bytes};
 ghost use Rattle.sealing.specs.Mode.{maps, ThereAndBack, OneDeadTweak};

@@ -1,4 +1,6 @@
 // The lock for C: blocks, buffers and cards under keys given as bytes. Every export says by its contract what the layers below say.
+#![tactic(auto)]
+
 mod blocks;
 mod keyed;
 mod outcome;

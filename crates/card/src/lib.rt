@@ -1,5 +1,7 @@
 // The seven calls on a card image, and the reading window. Each is pinned for every image, opened or not: `Acts` and `ReadsText` say its outcome and every
 // byte that it leaves. A refusal changes nothing; each call's checks stand in its own order in sheet's specs/Promise.antt.
+#![tactic(auto)]
+
 ghost use Rattle.std.specs.Prelude.{◌≡◌, ℕ, List};
 ghost use Rattle.sector.specs.Rings.{ciphers_of};
 ghost use Rattle.sheet.specs.Sectors.{sectors};

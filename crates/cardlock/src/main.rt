@@ -1,4 +1,6 @@
 // The program `cardlock`: runs a script of calls on a card in a file, with the ring of another file. docs/cardlock.md says how to use it.
+#![tactic(auto)]
+
 use aes::Aes;
 use calls::{Call, Step};
 use capi::whitened_under;

@@ -1,4 +1,6 @@
 // The worked cases of the arithmetic and of the mode, in one statement, and tests at the mode's limits.
+#![tactic(auto)]
+
 ghost use Rattle.cases.specs.Cases.{WorkedCases};
 
 // The worked cases hold: those of the arithmetic, and sealings with the glass cipher in the short and in the wide kind.

@@ -1,4 +1,6 @@
 // Ciphers: what every cipher owes, the glass cipher, and whitening.
+#![tactic(auto)]
+
 ghost use Rattle.std.specs.Prelude.{◌≡◌};
 ghost use Rattle.cipher.specs.Permutes.{Permutes};
 ghost use Rattle.std.proofs.Common.{rules};

@@ -1,4 +1,6 @@
 // The mask coefficients by place, made by doublings and sums alone, and what is promised of them.
+#![tactic(auto)]
+
 ghost use Rattle.std.specs.Prelude.{◌≡◌, ◌+◌, ◌-◌, ◌*◌, ◌<◌, ◌≤◌, slice_index_or};
 ghost use Rattle.field.specs.Mask.{times, run, written};
 ghost use Rattle.kind.specs.Laws.{mask_coefficients, most_blocks};

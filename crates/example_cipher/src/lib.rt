@@ -1,4 +1,6 @@
 // An owner's own cipher, as an example: it adds a key to the block and turns the block's bytes by one place. It is no strong cipher.
+#![tactic(auto)]
+
 ghost use Rattle.std.specs.Prelude.{◌≡◌};
 ghost use Rattle.std.proofs.Common.{ap, ◌∙◌};
 ghost use Rattle.example_cipher.specs.Turning.{turn, turn_back, encrypted, decrypted};

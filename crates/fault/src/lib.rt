@@ -1,5 +1,7 @@
 // What each layer refuses. A refusal has a number from 1 to 14, a sentence that is true when it comes, and a layer; on its way up the card adds the sector
 // and the key number, and the cause stays with it. specs/Faults.antt gives all of these for every case.
+#![tactic(auto)]
+
 ghost use Rattle.std.specs.Prelude.{◌≡◌, ℕ, Some};
 ghost use Rattle.fault.specs.Faults.{seal_number, seal_sentence, seal_cause, direct_layer, fault_number, fault_sentence, fault_layer, fault_sector, fault_key, fault_cause, fault_text, placed};
 

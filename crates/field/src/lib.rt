@@ -1,4 +1,6 @@
 // The mathematics of the block kinds, on numbers: the contracts of these functions carry the theorems that the kinds rest on.
+#![tactic(auto)]
+
 ghost use Rattle.std.specs.Prelude.{◌≡◌, ℕ, ◌^◌, ◌<◌};
 ghost use Rattle.field.specs.Bytes.{ByteLaws};
 ghost use Rattle.field.specs.Field.{short_terms, wide_terms};

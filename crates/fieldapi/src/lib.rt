@@ -1,4 +1,6 @@
 // The arithmetic of the two kinds on bytes, for C and for the benchmark.
+#![tactic(auto)]
+
 ghost use Rattle.std.specs.Prelude.{◌≡◌, length};
 ghost use Rattle.kind.specs.Polynomials.{wide_ops, short_ops};
 ghost use Rattle.fieldapi.specs.Elements.{product, inverted, is_there};

@@ -1,4 +1,6 @@
 // Block kinds: what a kind of block is, the polynomial kinds, and a buffer of bytes seen as blocks.
+#![tactic(auto)]
+
 pub mod block;
 pub mod buffer;
 pub mod laws;

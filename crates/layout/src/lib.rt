@@ -1,5 +1,7 @@
 // The card image as bytes: header, records, marks. Everything here is generic over the block kind, whose block length the header's form depends on,
 // and knows no cipher. specs/Layout.antt has the rules; each number of the layout is one constant here and one definition there.
+#![tactic(auto)]
+
 ghost use Rattle.std.specs.Prelude.{◌≡◌, ℕ, ◌+◌, ◌-◌, ◌*◌, ◌/◌, ◌%◌, ◌^◌, ◌<◌, ◌≤◌, true, false, not, List, [], ◌∷◌, ◌++◌, length, replicate, IfOk, if◌then◌else◌, Ok, Err};
 ghost use Rattle.fault.specs.declared.Fault.TheVariants.{ImageLength};
 ghost use Rattle.layout.specs.Checks.{ruled};

@@ -1,4 +1,6 @@
 // A card's manifest as text: which sectors are blank, and which key each sealed one needs. No key is used for it. specs/Lines.antt has the lines' bytes.
+#![tactic(auto)]
+
 ghost use Rattle.std.specs.Prelude.{◌≡◌, List, [], ◌++◌, IfOk, string_bytes, OnOk};
 ghost use Rattle.walk.specs.Walks.{held, coming, Ready};
 ghost use Rattle.listing.specs.Lines.{card_line, sector_line, refusal_line, listed, manifest_of};

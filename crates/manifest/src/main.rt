@@ -1,4 +1,6 @@
 // The program `manifest`: reads the image of a card with 16-byte blocks from standard input and prints what each sector holds.
+#![tactic(auto)]
+
 use anyhow::anyhow;
 use listing::LONGEST_IMAGE;
 use poly::Wide;

@@ -1,4 +1,6 @@
 // The elements of the two kinds: polynomials of 64 coefficients, the short kind, and of 128, the wide kind, with their product and their bytes.
+#![tactic(auto)]
+
 mod field;
 mod short;
 mod shorts;

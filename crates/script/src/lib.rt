@@ -1,4 +1,6 @@
 // Scripts of calls on a card and files of rings: their words, numbers and bytes, and the lines that tell each outcome.
+#![tactic(auto)]
+
 mod commands;
 mod hex;
 mod problems;

@@ -1,4 +1,6 @@
 // One sector of an image under a ring: the checks that calls begin with, and a sector's text read from its record and written into it.
+#![tactic(auto)]
+
 ghost use Rattle.std.specs.Prelude.{◌≡◌, ℕ, ◌<◌, ◌≤◌, List, [], ◌∷◌, length, is_ok, IfOk, if◌then◌else◌};
 ghost use Rattle.fault.specs.Faults.{refused_if, placed};
 ghost use Rattle.layout.specs.Checks.{ruled, verdict};

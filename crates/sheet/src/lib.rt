@@ -1,5 +1,7 @@
 // Sheets and their cards: what a sheet, its card and the calls on both are, and the proof that lists of calls keep sheet and card together (specs and
 // proofs). In code, the one thing that cards add to the sealing: the tweak of a sector.
+#![tactic(auto)]
+
 ghost use Rattle.std.specs.Prelude.{◌≡◌, ℕ, ◌<◌, length};
 ghost use Rattle.sheet.specs.Sectors.{sector_tweak};
 

@@ -1,6 +1,8 @@
 // Sealing in three passes over a buffer of the caller's. Beginning checks the tweak and the length and gives a stage; each pass uses up the stage
 // before it and gives the next, so a pass out of order, or a stage used twice, does not compile. Run in order on a buffer otherwise untouched, the
 // passes end in the sealing.
+#![tactic(auto)]
+
 ghost use Rattle.std.specs.Prelude.{◌≡◌, ◌*◌, length, ◌==◌};
 ghost use Rattle.sealing.specs.Mode.{maps, sealing, answer, left, first_pass, second_pass, third_pass};
 ghost use Rattle.stages.specs.Stages.{beginning, hashed_after, enciphered_after, next_or_back, after_pass};

@@ -1,4 +1,6 @@
 // The records of a card image, one after another, as entries that borrow from the image. Whoever holds the card needs no key for it.
+#![tactic(auto)]
+
 ghost use Rattle.std.specs.Prelude.{◌≡◌, ℕ, ◌-◌, length, IfOk};
 ghost use Rattle.layout.specs.Layout.{record_length, count_of};
 ghost use Rattle.walk.specs.Contents.{outcome_of, walk_of};

@@ -1,4 +1,6 @@
 // The walk for C: the whole image is walked first, and then each sector's byte is written.
+#![tactic(auto)]
+
 ghost use Rattle.std.specs.Prelude.{◌≡◌, ℕ, Ok};
 ghost use Rattle.capi.specs.Outcomes.{outcome};
 ghost use Rattle.walk.specs.Contents.{walk_of};

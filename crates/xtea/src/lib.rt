@@ -1,4 +1,6 @@
 // XTEA: a cipher of the short kind, 32 cycles on two words of 32 bits under a key of four.
+#![tactic(auto)]
+
 ghost use Rattle.std.specs.Prelude.{◌≡◌, ℕ, ◌+◌, ◌≤◌, length};
 ghost use Rattle.cipher.specs.Bytes.{through_bytes};
 ghost use Rattle.xtea.specs.Blocks.{encrypted, decrypted};
