@@ -46,8 +46,8 @@ impl Cipher for Aes {
 impl Aes {
     // The encryption of a block of any kind that has 16 bytes.
     fn encrypt_in<K: Block>(&self, b: K) -> K
-        requires { ops.size ≡ 16 }
-        ensures { result ≡ through_bytes ops (cipher self.now.keys) b }
+        requires { K.ops.size ≡ 16 }
+        ensures { result ≡ through_bytes K.ops (cipher self.now.keys) b }
     {
         let mut bytes = [0; 16];
         b.store(&mut bytes);
@@ -57,8 +57,8 @@ impl Aes {
 
     // The decryption of a block of any kind that has 16 bytes.
     fn decrypt_in<K: Block>(&self, b: K) -> K
-        requires { ops.size ≡ 16 }
-        ensures { result ≡ through_bytes ops (inv_cipher self.now.keys) b }
+        requires { K.ops.size ≡ 16 }
+        ensures { result ≡ through_bytes K.ops (inv_cipher self.now.keys) b }
     {
         let mut bytes = [0; 16];
         b.store(&mut bytes);

@@ -16,7 +16,7 @@ fn entry<P: Poly>(all: &[P; 16], i: usize) -> P
 
 // The multiples of b by the sixteen polynomials of a degree below four.
 fn multiples<P: Poly>(b: P) -> [P; 16]
-    ensures { Multiples width modulus value (value b) result }
+    ensures { Multiples P.width P.modulus P.value (P.value b) result }
 {
     let mut all = [P::zero(); 16];
     all[1] = b;
@@ -31,7 +31,7 @@ fn multiples<P: Poly>(b: P) -> [P; 16]
 
 // x^4 times b.
 fn by_sixteen<P: Poly>(b: P) -> P
-    ensures { value result ≡ raise width modulus 4 (value b) }
+    ensures { P.value result ≡ raise P.width P.modulus 4 (P.value b) }
 {
     b.doubled().doubled().doubled().doubled()
 }
@@ -48,7 +48,7 @@ impl<P: Poly> Multiplier<P> {
     // The tables of b.
     pub fn new(b: P) -> Multiplier<P>
         ensures of { result.of ≡ b }
-        ensures ready { Ready width modulus value result.of result.low result.high }
+        ensures ready { Ready P.width P.modulus P.value result.of result.low result.high }
     {
         Multiplier {
             of: b,
@@ -59,8 +59,8 @@ impl<P: Poly> Multiplier<P> {
 
     // The product of a and the element: eight coefficients of a at a turn, the highest first. Called on tables that `new` made.
     pub fn times(&self, a: P) -> P
-        requires { Ready width modulus value self.now.of self.now.low self.now.high }
-        ensures { value result ≡ mul width modulus (value a) (value self.now.of) }
+        requires { Ready P.width P.modulus P.value self.now.of self.now.low self.now.high }
+        ensures { P.value result ≡ mul P.width P.modulus (P.value a) (P.value self.now.of) }
     {
         let mut sum = P::zero();
         let mut rest = a;

@@ -66,14 +66,14 @@ pub trait Poly: Copy {
 
 // How many places the coefficients take up, from the highest one down: one more than the degree, and none for zero.
 fn places_of<P: Poly>(a: P) -> u32
-    ensures { result ≡ places width (value a) }
+    ensures { result ≡ places P.width (P.value a) }
 {
     P::bits() - a.zeros()
 }
 
 // The degree, the place of the highest one bit; none for zero.
 pub fn degree<P: Poly>(a: P) -> Option<u32>
-    ensures { MatchOption result (value a ≡ 0) (Degree (value a)) }
+    ensures { MatchOption result (P.value a ≡ 0) (Degree (P.value a)) }
 {
     let places = places_of(a);
     if places == 0 {
@@ -84,12 +84,12 @@ pub fn degree<P: Poly>(a: P) -> Option<u32>
 
 // The modulus divided by u: the quotient, and what is left, which in the field is the quotient times u. Called with a degree of one or more.
 fn divided<P: Poly>(u: P) -> (P, P)
-    requires { 1 < value u }
-    ensures product { value result.1 ≡ mul width modulus (value result.0) (value u) }
-    ensures nonzero { value result.0 ≢ 0 }
-    ensures least { 2 ^ (count_leading_zeros width (value u) + 1) ≤ value result.0 }
-    ensures most { value result.0 < 2 ^ (count_leading_zeros width (value u) + 2) }
-    ensures falls { count_leading_zeros width (value u) < count_leading_zeros width (value result.1) }
+    requires { 1 < P.value u }
+    ensures product { P.value result.1 ≡ mul P.width P.modulus (P.value result.0) (P.value u) }
+    ensures nonzero { P.value result.0 ≢ 0 }
+    ensures least { 2 ^ (count_leading_zeros P.width (P.value u) + 1) ≤ P.value result.0 }
+    ensures most { P.value result.0 < 2 ^ (count_leading_zeros P.width (P.value u) + 2) }
+    ensures falls { count_leading_zeros P.width (P.value u) < count_leading_zeros P.width (P.value result.1) }
 {
     let zeros = u.zeros();
     let top = P::one().shifted(zeros + 1);
@@ -107,10 +107,10 @@ fn divided<P: Poly>(u: P) -> (P, P)
 
 // One division on the way down: what is left of `big` below `small`, with its factor. Each is a multiple of one element, by its factor.
 fn reduced<P: Poly>(big: P, over: P, small: P, under: P) -> (P, P)
-    requires descent { Descent width (value big) (value over) (value small) (value under) }
-    requires more { count_leading_zeros width (value small) + 1 < width }
-    ensures descent { Descent width (value small) (value under) (value result.0) (value result.1) }
-    ensures product { (a : ℕ) → a < 2 ^ width → value big ≡ mul width modulus (value over) a → value small ≡ mul width modulus (value under) a → value result.0 ≡ mul width modulus (value result.1) a }
+    requires descent { Descent P.width (P.value big) (P.value over) (P.value small) (P.value under) }
+    requires more { count_leading_zeros P.width (P.value small) + 1 < P.width }
+    ensures descent { Descent P.width (P.value small) (P.value under) (P.value result.0) (P.value result.1) }
+    ensures product { (a : ℕ) → a < 2 ^ P.width → P.value big ≡ mul P.width P.modulus (P.value over) a → P.value small ≡ mul P.width P.modulus (P.value under) a → P.value result.0 ≡ mul P.width P.modulus (P.value result.1) a }
 {
     let zeros = small.zeros();
     let first = zeros - big.zeros();
@@ -128,7 +128,7 @@ fn reduced<P: Poly>(big: P, over: P, small: P, under: P) -> (P, P)
 
 // The inverse of a, or none where a is zero: divisions from the modulus and a down to one, whose degree falls at each.
 pub fn inverted<P: Poly>(a: P) -> Option<P>
-    ensures { MatchOption result (value a ≡ 0) (λ b. mul width modulus (value a) (value b) ≡ 1) }
+    ensures { MatchOption result (P.value a ≡ 0) (λ b. mul P.width P.modulus (P.value a) (P.value b) ≡ 1) }
 {
     let places = places_of(a);
     if places == 0 {

@@ -32,7 +32,7 @@ fn are_bytes(bytes: &[u8])
 
 // Makes one call; refuses as the call does.
 fn make<C: Cipher>(image: &mut [u8], ring: &Ring<'_, C>, call: &mut Call) -> Result<(), Fault>
-    ensures { Made (sectors Block-as-Block.ops enc dec) (ciphers_of ring.now) image.old call.old result image.new call.new }
+    ensures { Made (sectors C.Block.ops C.enc C.dec) (ciphers_of ring.now) image.old call.old result image.new call.new }
 {
     match call {
         Call::Format { number } => {
@@ -59,7 +59,7 @@ fn make<C: Cipher>(image: &mut [u8], ring: &Ring<'_, C>, call: &mut Call) -> Res
 
 // Makes the call of a step and notes its outcome there.
 fn make_step<C: Cipher>(image: &mut [u8], ring: &Ring<'_, C>, step: &mut Step)
-    ensures { Made (sectors Block-as-Block.ops enc dec) (ciphers_of ring.now) image.old step.old.call step.new.outcome image.new step.new.call }
+    ensures { Made (sectors C.Block.ops C.enc C.dec) (ciphers_of ring.now) image.old step.old.call step.new.outcome image.new step.new.call }
 {
     step.outcome = make(image, ring, &mut step.call);
 }
@@ -74,14 +74,14 @@ fn make_step<C: Cipher>(image: &mut [u8], ring: &Ring<'_, C>, step: &mut Step)
 // `one_dead_tweak`, `there_and_back`: for each cipher exactly one tweak, the same at every count from two blocks up, is refused by direct sealing and
 // unsealing, and under all others every buffer goes there and back.
 pub fn run<C: Cipher>(image: &mut [u8], ring: &Ring<'_, C>, steps: &mut [Step])
-    ensures image { image.new ≡ final_image (sectors Block-as-Block.ops enc dec) (ciphers_of ring.now) image.old (calls_of steps.old) }
-    ensures answers { answers_of steps.new ≡ answers_on (sectors Block-as-Block.ops enc dec) (ciphers_of ring.now) image.old (calls_of steps.old) }
+    ensures image { image.new ≡ final_image (sectors C.Block.ops C.enc C.dec) (ciphers_of ring.now) image.old (calls_of steps.old) }
+    ensures answers { answers_of steps.new ≡ answers_on (sectors C.Block.ops C.enc C.dec) (ciphers_of ring.now) image.old (calls_of steps.old) }
     ensures unchanged { all_asked steps.new ≡ all_asked steps.old }
-    ensures promise { IsRing (ciphers_of ring.now) → KeepsSheet (sectors Block-as-Block.ops enc dec) (ciphers_of ring.now) image.old (calls_of steps.old) image.new (answers_of steps.new) }
-    ensures equal_cards { EqualCardsEqualSheets (sectors Block-as-Block.ops enc dec) (ciphers_of ring.now) }
-    ensures opens { IsRing (ciphers_of ring.now) → (x : List ℕ) → Bytes x → OpensExactlyCards (sectors Block-as-Block.ops enc dec) (ciphers_of ring.now) x (outcome_on (sectors Block-as-Block.ops enc dec) (ciphers_of ring.now) x Opening) }
-    ensures one_dead_tweak { (c : C) → OneDeadTweak Block-as-Block.ops (maps enc dec c) }
-    ensures there_and_back { (c : C) → ThereAndBack Block-as-Block.ops (maps enc dec c) }
+    ensures promise { IsRing (ciphers_of ring.now) → KeepsSheet (sectors C.Block.ops C.enc C.dec) (ciphers_of ring.now) image.old (calls_of steps.old) image.new (answers_of steps.new) }
+    ensures equal_cards { EqualCardsEqualSheets (sectors C.Block.ops C.enc C.dec) (ciphers_of ring.now) }
+    ensures opens { IsRing (ciphers_of ring.now) → (x : List ℕ) → Bytes x → OpensExactlyCards (sectors C.Block.ops C.enc C.dec) (ciphers_of ring.now) x (outcome_on (sectors C.Block.ops C.enc C.dec) (ciphers_of ring.now) x Opening) }
+    ensures one_dead_tweak { (c : C) → OneDeadTweak C.Block.ops (maps C.enc C.dec c) }
+    ensures there_and_back { (c : C) → ThereAndBack C.Block.ops (maps C.enc C.dec c) }
 {
     are_bytes(image);
     for step in steps.iter_mut() {

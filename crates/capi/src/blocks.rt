@@ -10,16 +10,16 @@ use kind::Block;
 use xtea::Xtea;
 
 fn encrypt_by<C: Cipher>(cipher: &C, block: &mut [u8])
-    requires { length block.old ≡ Block-as-Block.ops.size }
-    ensures { block.new ≡ on_block Block-as-Block.ops (enc cipher.now) block.old }
+    requires { length block.old ≡ C.Block.ops.size }
+    ensures { block.new ≡ on_block C.Block.ops (C.enc cipher.now) block.old }
 {
     let text = C::Block::load(block);
     cipher.encrypt(text).store(block);
 }
 
 fn decrypt_by<C: Cipher>(cipher: &C, block: &mut [u8])
-    requires { length block.old ≡ Block-as-Block.ops.size }
-    ensures { block.new ≡ on_block Block-as-Block.ops (dec cipher.now) block.old }
+    requires { length block.old ≡ C.Block.ops.size }
+    ensures { block.new ≡ on_block C.Block.ops (C.dec cipher.now) block.old }
 {
     let text = C::Block::load(block);
     cipher.decrypt(text).store(block);

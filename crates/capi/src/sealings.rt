@@ -14,15 +14,15 @@ use kind::Block;
 use xtea::Xtea;
 
 fn seal_by<C: Cipher>(cipher: &C, tweak: &[u8], buffer: &mut [u8]) -> Outcome
-    ensures answers { result ≡ seal_outcome Block-as-Block.ops (maps enc dec cipher.now) tweak.now buffer.old }
-    ensures leaves { buffer.new ≡ seal_leaves Block-as-Block.ops (maps enc dec cipher.now) tweak.now buffer.old }
+    ensures answers { result ≡ seal_outcome C.Block.ops (maps C.enc C.dec cipher.now) tweak.now buffer.old }
+    ensures leaves { buffer.new ≡ seal_leaves C.Block.ops (maps C.enc C.dec cipher.now) tweak.now buffer.old }
 {
     sealing_outcome(sealing::seal(cipher, tweak, buffer))
 }
 
 fn unseal_by<C: Cipher>(cipher: &C, tweak: &[u8], buffer: &mut [u8]) -> Outcome
-    ensures answers { result ≡ unseal_outcome Block-as-Block.ops (maps enc dec cipher.now) tweak.now buffer.old }
-    ensures leaves { buffer.new ≡ unseal_leaves Block-as-Block.ops (maps enc dec cipher.now) tweak.now buffer.old }
+    ensures answers { result ≡ unseal_outcome C.Block.ops (maps C.enc C.dec cipher.now) tweak.now buffer.old }
+    ensures leaves { buffer.new ≡ unseal_leaves C.Block.ops (maps C.enc C.dec cipher.now) tweak.now buffer.old }
 {
     sealing_outcome(sealing::unseal(cipher, tweak, buffer))
 }

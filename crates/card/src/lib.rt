@@ -19,7 +19,7 @@ pub mod window;
 // Writes the whole image: header, card number, every sector blank. Refuses 2, 'the image is not a header and 1 to 65,535 records long', and 10, 'the card
 // number is not one block long'.
 pub fn format<C: Cipher>(image: &mut [u8], number: &[u8]) -> Result<(), Fault>
-    ensures { (ring : List C) → Acts (sectors Block-as-Block.ops enc dec) ring image.old (Formatting number.now) result image.new }
+    ensures { (ring : List C) → Acts (sectors C.Block.ops C.enc C.dec) ring image.old (Formatting number.now) result image.new }
 {
     layout::sector_count::<C::Block>(image)?;
     if number.len() != C::Block::size() {
@@ -32,8 +32,8 @@ pub fn format<C: Cipher>(image: &mut [u8], number: &[u8]) -> Result<(), Fault>
 // Accepts the image exactly when it is the card of some sheet, and changes no byte. Refuses 1 to 3, then sector by sector from 0: 7, 'the mark is neither
 // 00 00 nor 4B hex with a number below the ring's size', 8, 'a record marked blank holds a byte other than zero', and 13, 'the tweak is dead'.
 pub fn open<C: Cipher>(image: &[u8], ring: &Ring<'_, C>) -> Result<(), Fault>
-    ensures outcome { result ≡ outcome_on (sectors Block-as-Block.ops enc dec) (ciphers_of ring.now) image.now Opening }
-    ensures opens { IsRing (ciphers_of ring.now) → OpensExactlyCards (sectors Block-as-Block.ops enc dec) (ciphers_of ring.now) image.now result }
+    ensures outcome { result ≡ outcome_on (sectors C.Block.ops C.enc C.dec) (ciphers_of ring.now) image.now Opening }
+    ensures opens { IsRing (ciphers_of ring.now) → OpensExactlyCards (sectors C.Block.ops C.enc C.dec) (ciphers_of ring.now) image.now result }
 {
     let count = check_ring_and_image(image, ring)?;
     for sector in 0..count {
@@ -51,7 +51,7 @@ pub fn write<C: Cipher>(
     key: usize,
     text: &[u8],
 ) -> Result<(), Fault>
-    ensures { Acts (sectors Block-as-Block.ops enc dec) (ciphers_of ring.now) image.old (Writing sector key text.now) result image.new }
+    ensures { Acts (sectors C.Block.ops C.enc C.dec) (ciphers_of ring.now) image.old (Writing sector key text.now) result image.new }
 {
     let count = check_ring_and_image(image, ring)?;
     if sector >= count {
@@ -74,7 +74,7 @@ pub fn read<C: Cipher>(
     sector: usize,
     buffer: &mut [u8],
 ) -> Result<(), Fault>
-    ensures { ReadsText (sectors Block-as-Block.ops enc dec) (ciphers_of ring.now) image.now sector buffer.old result buffer.new }
+    ensures { ReadsText (sectors C.Block.ops C.enc C.dec) (ciphers_of ring.now) image.now sector buffer.old result buffer.new }
 {
     let count = check_ring_and_image(image, ring)?;
     if sector >= count {
@@ -96,7 +96,7 @@ pub fn rekey<C: Cipher>(
     sector: usize,
     new_key: usize,
 ) -> Result<(), Fault>
-    ensures { Acts (sectors Block-as-Block.ops enc dec) (ciphers_of ring.now) image.old (Rekeying sector new_key) result image.new }
+    ensures { Acts (sectors C.Block.ops C.enc C.dec) (ciphers_of ring.now) image.old (Rekeying sector new_key) result image.new }
 {
     let count = check_ring_and_image(image, ring)?;
     if sector >= count {
@@ -117,7 +117,7 @@ pub fn copy<C: Cipher>(
     source: usize,
     destination: usize,
 ) -> Result<(), Fault>
-    ensures { Acts (sectors Block-as-Block.ops enc dec) (ciphers_of ring.now) image.old (Copying source destination) result image.new }
+    ensures { Acts (sectors C.Block.ops C.enc C.dec) (ciphers_of ring.now) image.old (Copying source destination) result image.new }
 {
     let count = check_ring_and_image(image, ring)?;
     if source >= count {
@@ -135,7 +135,7 @@ pub fn copy<C: Cipher>(
 
 // Makes a sector blank. Refuses 2 to 4; it needs no ring.
 pub fn erase<C: Cipher>(image: &mut [u8], sector: usize) -> Result<(), Fault>
-    ensures { (ring : List C) → Acts (sectors Block-as-Block.ops enc dec) ring image.old (Erasing sector) result image.new }
+    ensures { (ring : List C) → Acts (sectors C.Block.ops C.enc C.dec) ring image.old (Erasing sector) result image.new }
 {
     let count = layout::check_header::<C::Block>(image)?;
     if sector >= count {

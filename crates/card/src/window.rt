@@ -41,7 +41,7 @@ impl<'a> Window<'a> {
         ring: &Ring<'_, C>,
         sector: usize,
     ) -> Result<(), Fault>
-        ensures text { ReadsText (sectors Block-as-Block.ops enc dec) (ciphers_of ring.now) image.now sector self.old.buffer.now result self.new.buffer.now }
+        ensures text { ReadsText (sectors C.Block.ops C.enc C.dec) (ciphers_of ring.now) image.now sector self.old.buffer.now result self.new.buffer.now }
         ensures same { self.new.buffer.ghost_name ≡ self.old.buffer.ghost_name }
         ensures long { length self.new.buffer.now ≡ length self.old.buffer.now }
     {
@@ -64,7 +64,7 @@ pub fn try_read<C: Cipher>(
     sector: usize,
     buffer: &mut [u8],
 ) -> Result<(), Fault>
-    ensures outcome { result ≡ outcome_on (sectors Block-as-Block.ops enc dec) (ciphers_of ring.now) image.now (Reading sector buffer.old) }
+    ensures outcome { result ≡ outcome_on (sectors C.Block.ops C.enc C.dec) (ciphers_of ring.now) image.now (Reading sector buffer.old) }
     ensures wiped { buffer.new ≡ replicate (length buffer.old) 0 }
 {
     let mut window = Window::over(buffer);

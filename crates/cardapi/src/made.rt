@@ -20,13 +20,13 @@ pub fn ring_refused() -> Outcome
 }
 
 pub fn format_on<C: Cipher>(image: &mut [u8], number: &[u8]) -> Outcome
-    ensures { Acted (sectors Block-as-Block.ops enc dec) [] image.old (Formatting number.now) result image.new }
+    ensures { Acted (sectors C.Block.ops C.enc C.dec) [] image.old (Formatting number.now) result image.new }
 {
     card_outcome(card::format::<C>(image, number))
 }
 
 pub fn open_on<C: Cipher>(ciphers: &[C], image: &[u8]) -> Outcome
-    ensures { Acted (sectors Block-as-Block.ops enc dec) ciphers.now image.now Opening result image.now }
+    ensures { Acted (sectors C.Block.ops C.enc C.dec) ciphers.now image.now Opening result image.now }
 {
     card_outcome(card::open(image, &Ring::new(ciphers)))
 }
@@ -38,19 +38,19 @@ pub fn write_on<C: Cipher>(
     key: usize,
     text: &[u8],
 ) -> Outcome
-    ensures { Acted (sectors Block-as-Block.ops enc dec) ciphers.now image.old (Writing sector key text.now) result image.new }
+    ensures { Acted (sectors C.Block.ops C.enc C.dec) ciphers.now image.old (Writing sector key text.now) result image.new }
 {
     card_outcome(card::write(image, &Ring::new(ciphers), sector, key, text))
 }
 
 pub fn read_on<C: Cipher>(ciphers: &[C], image: &[u8], sector: usize, buffer: &mut [u8]) -> Outcome
-    ensures { WasRead (sectors Block-as-Block.ops enc dec) ciphers.now image.now sector buffer.old result buffer.new }
+    ensures { WasRead (sectors C.Block.ops C.enc C.dec) ciphers.now image.now sector buffer.old result buffer.new }
 {
     card_outcome(card::read(image, &Ring::new(ciphers), sector, buffer))
 }
 
 pub fn rekey_on<C: Cipher>(ciphers: &[C], image: &mut [u8], sector: usize, key: usize) -> Outcome
-    ensures { Acted (sectors Block-as-Block.ops enc dec) ciphers.now image.old (Rekeying sector key) result image.new }
+    ensures { Acted (sectors C.Block.ops C.enc C.dec) ciphers.now image.old (Rekeying sector key) result image.new }
 {
     card_outcome(card::rekey(image, &Ring::new(ciphers), sector, key))
 }
@@ -61,13 +61,13 @@ pub fn copy_on<C: Cipher>(
     source: usize,
     destination: usize,
 ) -> Outcome
-    ensures { Acted (sectors Block-as-Block.ops enc dec) ciphers.now image.old (Copying source destination) result image.new }
+    ensures { Acted (sectors C.Block.ops C.enc C.dec) ciphers.now image.old (Copying source destination) result image.new }
 {
     card_outcome(card::copy(image, &Ring::new(ciphers), source, destination))
 }
 
 pub fn erase_on<C: Cipher>(image: &mut [u8], sector: usize) -> Outcome
-    ensures { Acted (sectors Block-as-Block.ops enc dec) [] image.old (Erasing sector) result image.new }
+    ensures { Acted (sectors C.Block.ops C.enc C.dec) [] image.old (Erasing sector) result image.new }
 {
     card_outcome(card::erase::<C>(image, sector))
 }

@@ -42,8 +42,8 @@ pub trait Cipher {
 
 // Every cipher's two maps send different blocks to different blocks, and leave no block out.
 pub fn permutes<C: Cipher>(cipher: &C)
-    ensures encryption { Permutes (enc cipher.now) }
-    ensures decryption { Permutes (dec cipher.now) }
+    ensures encryption { Permutes (C.enc cipher.now) }
+    ensures decryption { Permutes (C.dec cipher.now) }
 {}
 
 // The glass cipher, in any kind: E(b) = D(b) = b. It hides nothing, and serves worked cases.

@@ -11,7 +11,7 @@ use poly::{Field, degree};
 
 // x^k.
 pub fn power<K: Block>(k: usize) -> K
-    ensures { result ≡ times (ops.mul ops.x) k ops.one }
+    ensures { result ≡ times (K.ops.mul K.ops.x) k K.ops.one }
 {
     let mut power = K::one();
     for i in 0..k {
@@ -23,7 +23,7 @@ pub fn power<K: Block>(k: usize) -> K
 // x^s times element i, counted from 0, of the run of length 3 t. Called with i below 3 t.
 fn run_element<K: Block>(t: usize, i: usize, s: usize) -> K
     requires { (t ≤ most_blocks) × ((i < 3 * t) × (s ≤ 4)) }
-    ensures { result ≡ times (ops.mul ops.x) s (slice_index_or (run ops.add (ops.mul ops.x) ops.one t) i ops.zero) }
+    ensures { result ≡ times (K.ops.mul K.ops.x) s (slice_index_or (run K.ops.add (K.ops.mul K.ops.x) K.ops.one t) i K.ops.zero) }
 {
     if i < 2 * t {
         power(s + (i + 1))
@@ -36,8 +36,8 @@ fn run_element<K: Block>(t: usize, i: usize, s: usize) -> K
 // Element i, counted from 0, of the k sums 1 + x, x + x^2, .. that stand before a run, the last of them x^(k - 1) + 1. Called with i below k.
 fn head_element<K: Block>(k: usize, i: usize) -> K
     requires { (i < k) × (k ≤ 5) }
-    ensures inner { i + 1 < k → result ≡ ops.add (times (ops.mul ops.x) i ops.one) (times (ops.mul ops.x) (i + 1) ops.one) }
-    ensures outer { i + 1 ≡ k → result ≡ ops.add (times (ops.mul ops.x) i ops.one) ops.one }
+    ensures inner { i + 1 < k → result ≡ K.ops.add (times (K.ops.mul K.ops.x) i K.ops.one) (times (K.ops.mul K.ops.x) (i + 1) K.ops.one) }
+    ensures outer { i + 1 ≡ k → result ≡ K.ops.add (times (K.ops.mul K.ops.x) i K.ops.one) K.ops.one }
 {
     if i + 1 < k {
         power::<K>(i).add(power(i + 1))
@@ -49,7 +49,7 @@ fn head_element<K: Block>(k: usize, i: usize) -> K
 // The mask coefficient at place i of m blocks. Called with a count and a place that there are.
 fn coefficient_at<K: Block>(m: usize, i: usize) -> K
     requires { (3 ≤ m) × ((m ≤ most_blocks) × (i < m)) }
-    ensures { result ≡ slice_index_or (mask_coefficients ops m) i ops.zero }
+    ensures { result ≡ slice_index_or (mask_coefficients K.ops m) i K.ops.zero }
 {
     let t = m / 3;
     let rest = m % 3;
@@ -70,7 +70,7 @@ fn coefficient_at<K: Block>(m: usize, i: usize) -> K
 
 // The mask coefficient at place i, counted from 0, of m blocks. None where m is below 3 or above the most blocks, or i is not below m.
 pub fn mask_coefficient<K: Block>(m: usize, i: usize) -> Option<K>
-    ensures { result ≡ mask_coefficient ops m i }
+    ensures { result ≡ mask_coefficient K.ops m i }
 {
     if m < 3 || MOST_BLOCKS < m || m <= i {
         return None;
@@ -91,5 +91,5 @@ pub fn mask_degree<P: Field>(m: usize, i: usize) -> Option<u32>
 
 // In every kind there are m coefficients for m blocks, they add to zero, and no two are equal.
 pub fn mask_laws<K: Block>()
-    ensures { MaskLaws ops most_blocks }
+    ensures { MaskLaws K.ops most_blocks }
 {}

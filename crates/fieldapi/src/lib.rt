@@ -9,9 +9,9 @@ use kind::Block;
 use poly::{Short, Wide};
 
 fn multiply<K: Block>(a: &[u8], b: &mut [u8])
-    requires first { length a.now ≡ ops.size }
-    requires second { length b.old ≡ ops.size }
-    ensures { b.new ≡ product ops a.now b.old }
+    requires first { length a.now ≡ K.ops.size }
+    requires second { length b.old ≡ K.ops.size }
+    ensures { b.new ≡ product K.ops a.now b.old }
 {
     let x = K::load(a);
     let y = K::load(b);
@@ -19,9 +19,9 @@ fn multiply<K: Block>(a: &[u8], b: &mut [u8])
 }
 
 fn invert<K: Block>(a: &mut [u8]) -> bool
-    requires { length a.old ≡ ops.size }
-    ensures there { result ≡ is_there (ops.inverse (ops.block a.old)) }
-    ensures bytes { a.new ≡ inverted ops a.old }
+    requires { length a.old ≡ K.ops.size }
+    ensures there { result ≡ is_there (K.ops.inverse (K.ops.block a.old)) }
+    ensures bytes { a.new ≡ inverted K.ops a.old }
 {
     let x = K::load(a);
     let Some(y) = x.inverse() else {

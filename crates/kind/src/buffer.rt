@@ -6,8 +6,8 @@ use crate::block::Block;
 
 // Block i of the buffer.
 pub fn load_block<K: Block>(buf: &[u8], m: usize, i: usize) -> K
-    requires { (length buf.now ≡ m * ops.size) × (i < m) }
-    ensures { result ≡ slice_index_or (blocks ops m buf.now) i result }
+    requires { (length buf.now ≡ m * K.ops.size) × (i < m) }
+    ensures { result ≡ slice_index_or (blocks K.ops m buf.now) i result }
 {
     let n = K::size();
     let start = i * n;
@@ -16,8 +16,8 @@ pub fn load_block<K: Block>(buf: &[u8], m: usize, i: usize) -> K
 
 // Makes k block i of the buffer, and leaves the other blocks.
 pub fn store_block<K: Block>(buf: &mut [u8], m: usize, i: usize, k: K)
-    requires { (length buf.old ≡ m * ops.size) × (i < m) }
-    ensures { blocks ops m buf.new ≡ slice_set (blocks ops m buf.old) i k }
+    requires { (length buf.old ≡ m * K.ops.size) × (i < m) }
+    ensures { blocks K.ops m buf.new ≡ slice_set (blocks K.ops m buf.old) i k }
 {
     let n = K::size();
     let at = i * n;

@@ -8,17 +8,17 @@ use crate::block::Block;
 
 // What every kind has shown of its elements.
 pub fn kind_laws<K: Block>()
-    ensures { Laws ops }
+    ensures { Laws K.ops }
 {}
 
 // A buffer of whole blocks is decided by its blocks, and they by the buffer.
 pub fn buffer_laws<K: Block>()
-    ensures { BufferLaws ops }
+    ensures { BufferLaws K.ops }
 {}
 
 // The inverse of an element of any kind: the only element whose product with it is one. Zero has none, and the answer is then none.
 pub fn inverse_of<K: Block>(a: K) -> Option<K>
-    ensures { IsInverse ops a result }
+    ensures { IsInverse K.ops a result }
 {
     a.inverse()
 }

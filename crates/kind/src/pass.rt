@@ -20,9 +20,9 @@ pub trait Step<K> {
 
 // Takes the step at each of the m blocks of the buffer, first to last, and puts what it gives in the block's place. Called with m whole blocks.
 pub fn run_pass<K: Block, S: Step<K>>(s: &mut S, buf: &mut [u8], m: usize)
-    requires { length buf.old ≡ m * ops.size }
-    ensures value { buf.new ≡ flat ops (over out next s.old (blocks ops m buf.old)) }
-    ensures state { s.new ≡ after next s.old (blocks ops m buf.old) }
+    requires { length buf.old ≡ m * K.ops.size }
+    ensures value { buf.new ≡ flat K.ops (over S.out S.next s.old (blocks K.ops m buf.old)) }
+    ensures state { s.new ≡ after S.next s.old (blocks K.ops m buf.old) }
 {
     for i in 0..m {
         let b: K = load_block(buf, m, i);

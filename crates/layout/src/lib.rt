@@ -40,7 +40,7 @@ pub const SEALED_TAG: u8 = 0x4b;
 
 // The bytes of a block of the kind; no kind has more than 128.
 pub fn width<K: Block>() -> usize
-    ensures value { result ≡ ops.size }
+    ensures value { result ≡ K.ops.size }
     ensures narrow { result ≤ 128 }
 {
     K::size()
@@ -48,7 +48,7 @@ pub fn width<K: Block>() -> usize
 
 // The bytes of the header of a card of this kind: magic byte, kind's code, card number.
 pub fn header_length<K: Block>() -> usize
-    ensures value { result ≡ header_length ops.size }
+    ensures value { result ≡ header_length K.ops.size }
     ensures narrow { result ≤ 130 }
 {
     NUMBER_START + width::<K>()
@@ -56,14 +56,14 @@ pub fn header_length<K: Block>() -> usize
 
 // The header's second byte.
 pub fn kind_code<K: Block>() -> u8
-    ensures { result ≡ kind_code ops.size }
+    ensures { result ≡ kind_code K.ops.size }
 {
     width::<K>() as u8
 }
 
 // How many sectors the image has. Refuses 2, 'the image is not a header and 1 to 65,535 records long'.
 pub fn sector_count<K: Block>(image: &[u8]) -> Result<usize, Fault>
-    ensures { result ≡ (if not (is_sized ops.size image.now) then Err ImageLength else Ok (count_of ops.size image.now)) }
+    ensures { result ≡ (if not (is_sized K.ops.size image.now) then Err ImageLength else Ok (count_of K.ops.size image.now)) }
 {
     let head = header_length::<K>();
     let len = image.len();
@@ -80,8 +80,8 @@ pub fn sector_count<K: Block>(image: &[u8]) -> Result<usize, Fault>
 // How many sectors the image has, if it begins as a card of this kind. Refuses 2 as `sector_count` does, then 3, 'the image does not begin with 43 hex and the
 // kind's code'.
 pub fn check_header<K: Block>(image: &[u8]) -> Result<usize, Fault>
-    ensures fits { IfOk result (λ n. Fitting ops.size image.now n) }
-    ensures outcome { result ≡ ruled (head_checks ops.size image.now) (count_of ops.size image.now) }
+    ensures fits { IfOk result (λ n. Fitting K.ops.size image.now n) }
+    ensures outcome { result ≡ ruled (head_checks K.ops.size image.now) (count_of K.ops.size image.now) }
 {
     let count = sector_count::<K>(image)?;
     if image[0] != MAGIC || image[1] != kind_code::<K>() {
@@ -92,9 +92,9 @@ pub fn check_header<K: Block>(image: &[u8]) -> Result<usize, Fault>
 
 // The card number of an image that is at least a header long.
 pub fn card_number<K: Block>(image: &[u8]) -> &[u8]
-    requires { header_length ops.size ≤ length image.now }
-    ensures value { result.now ≡ card_number_of ops.size image.now }
-    ensures long { length result.now ≡ ops.size }
+    requires { header_length K.ops.size ≤ length image.now }
+    ensures value { result.now ≡ card_number_of K.ops.size image.now }
+    ensures long { length result.now ≡ K.ops.size }
 {
     &image[NUMBER_START..NUMBER_START + width::<K>()]
 }
@@ -102,15 +102,15 @@ pub fn card_number<K: Block>(image: &[u8]) -> &[u8]
 // Where the record of a sector begins. The caller has tested the sector against the image's count.
 pub fn record_start<K: Block>(sector: usize) -> usize
     requires { sector < most_sectors }
-    ensures { result ≡ record_start ops.size sector }
+    ensures { result ≡ record_start K.ops.size sector }
 {
     header_length::<K>() + RECORD_LENGTH * sector
 }
 
 // The record of a sector, which lies inside the image.
 pub fn record<K: Block>(image: &[u8], sector: usize) -> &[u8]
-    requires { Inside ops.size image.now sector }
-    ensures value { result.now ≡ record_at ops.size image.now sector }
+    requires { Inside K.ops.size image.now sector }
+    ensures value { result.now ≡ record_at K.ops.size image.now sector }
     ensures long { length result.now ≡ record_length }
 {
     let start = record_start::<K>(sector);
@@ -119,9 +119,9 @@ pub fn record<K: Block>(image: &[u8], sector: usize) -> &[u8]
 
 // Makes the image, of lawful length, the card with this number and only blank sectors.
 pub fn clear<K: Block>(image: &mut [u8], number: &[u8])
-    requires number_long { length number.now ≡ ops.size }
-    requires sized { is_sized ops.size image.old ≡ true }
-    ensures { image.new ≡ blank_card ops.size number.now image.old }
+    requires number_long { length number.now ≡ K.ops.size }
+    requires sized { is_sized K.ops.size image.old ≡ true }
+    ensures { image.new ≡ blank_card K.ops.size number.now image.old }
 {
     image.fill(0);
     image[0] = MAGIC;

@@ -19,7 +19,7 @@ pub const LONGEST_IMAGE: usize = 65536;
 // `refused 8 1`: the number and, for 7 and 8, the sector. It refuses 2 for an image of more than 65,536 bytes before anything else, and then as the walk does: 2,
 // 3, and 7 or 8 at the first record that has it. The whole image is walked before a line is given out. An `Err` says that there was no memory for the text.
 pub fn manifest<K: Block>(heap: Global, image: &[u8]) -> Result<String, fmt::Error>
-    ensures { IfOk result (λ text. string_bytes text ≡ manifest_of ops.size image.now) }
+    ensures { IfOk result (λ text. string_bytes text ≡ manifest_of K.ops.size image.now) }
 {
     if image.len() > LONGEST_IMAGE {
         return refusal(heap, Fault::ImageLength);

@@ -14,8 +14,8 @@ use kind::pass::run_pass;
 
 // Multiplies the block at each place i, counted from 0, by r to the power i: 2m - 3 products from two blocks up, and none for one.
 pub fn multiply_by_powers<K: Block>(r: K, m: u16, buffer: &mut [u8])
-    requires { length buffer.old ≡ m * ops.size }
-    ensures { buffer.new ≡ on_blocks ops m (times_powers ops r) buffer.old }
+    requires { length buffer.old ≡ m * K.ops.size }
+    ensures { buffer.new ≡ on_blocks K.ops m (times_powers K.ops r) buffer.old }
 {
     let left = m.saturating_sub(1);
     let mut powers = Powers {
@@ -29,8 +29,8 @@ pub fn multiply_by_powers<K: Block>(r: K, m: u16, buffer: &mut [u8])
 
 // The sum of the blocks.
 fn total<K: Block>(m: usize, buffer: &[u8]) -> K
-    requires { length buffer.now ≡ m * ops.size }
-    ensures { result ≡ sum ops (blocks ops m buffer.now) }
+    requires { length buffer.now ≡ m * K.ops.size }
+    ensures { result ≡ sum K.ops (blocks K.ops m buffer.now) }
 {
     let mut t = K::zero();
     for i in 0..m {
@@ -48,8 +48,8 @@ pub fn add_masks<C: Cipher>(
     end: C::Block,
     buffer: &mut [u8],
 )
-    requires { length buffer.old ≡ terms.now.m * C.Block.Block.ops.size }
-    ensures { buffer.new ≡ on_blocks C.Block.Block.ops terms.now.m (masked C.Block.Block.ops (enc cipher.now) (mask C.Block.Block.ops terms.now single) end) buffer.old }
+    requires { length buffer.old ≡ terms.now.m * C.Block.ops.size }
+    ensures { buffer.new ≡ on_blocks C.Block.ops terms.now.m (masked C.Block.ops (C.enc cipher.now) (mask C.Block.ops terms.now single) end) buffer.old }
 {
     let m = terms.m;
     if m <= 1 {
@@ -76,8 +76,8 @@ pub fn add_masks<C: Cipher>(
 
 // E of each block.
 pub fn encrypt_all<C: Cipher>(cipher: &C, m: u16, buffer: &mut [u8])
-    requires { length buffer.old ≡ m * Block-as-Block.ops.size }
-    ensures { buffer.new ≡ on_blocks Block-as-Block.ops m (map (enc cipher.now)) buffer.old }
+    requires { length buffer.old ≡ m * C.Block.ops.size }
+    ensures { buffer.new ≡ on_blocks C.Block.ops m (map (C.enc cipher.now)) buffer.old }
 {
     let mut each = Enciphering { cipher };
     run_pass(&mut each, buffer, m as usize);
@@ -85,8 +85,8 @@ pub fn encrypt_all<C: Cipher>(cipher: &C, m: u16, buffer: &mut [u8])
 
 // D of each block.
 pub fn decrypt_all<C: Cipher>(cipher: &C, m: u16, buffer: &mut [u8])
-    requires { length buffer.old ≡ m * Block-as-Block.ops.size }
-    ensures { buffer.new ≡ on_blocks Block-as-Block.ops m (map (dec cipher.now)) buffer.old }
+    requires { length buffer.old ≡ m * C.Block.ops.size }
+    ensures { buffer.new ≡ on_blocks C.Block.ops m (map (C.dec cipher.now)) buffer.old }
 {
     let mut each = Deciphering { cipher };
     run_pass(&mut each, buffer, m as usize);

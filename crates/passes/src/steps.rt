@@ -30,7 +30,7 @@ impl<K: Block> Step<K> for Powers<K> {
 
 // Adds the mask of one block or two.
 impl<K: Block> Step<K> for Pair<K> {
-    ghost out = { λ s b. K.Block.ops.add b s.first };
+    ghost out = { λ s b. K.ops.add b s.first };
 
     ghost next = { λ s b. pair_next s };
 
@@ -44,7 +44,7 @@ impl<K: Block> Step<K> for Pair<K> {
 // The masks of m blocks, m from three up, that are multiples of `value`.
 pub(crate) fn first_masks<K: Block>(value: K, m: u16) -> Masks<K>
     requires { 3 ≤ m }
-    ensures { result ≡ first_masks ops value m }
+    ensures { result ≡ first_masks K.ops value m }
 {
     let t = m / 3;
     let rest = m % 3;
@@ -124,7 +124,7 @@ pub struct Deciphering<'a, C> {
 }
 
 impl<'a, C: Cipher> Step<C::Block> for Deciphering<'a, C> {
-    ghost out = { λ s b. C.Cipher.dec s.cipher.now b };
+    ghost out = { λ s b. C.dec s.cipher.now b };
 
     ghost next = { λ s b. s };
 

@@ -17,16 +17,16 @@ fn by_size<K: Copy>(m: u16, few: K, many: K) -> K
 
 // The first pass: the blocks PP from the text.
 pub fn first_pass<C: Cipher>(cipher: &C, terms: &Terms<C::Block>, buffer: &mut [u8])
-    requires { length buffer.old ≡ terms.now.m * C.Block.Block.ops.size }
-    ensures { buffer.new ≡ on_blocks C.Block.Block.ops terms.now.m (first_pass C.Block.Block.ops (maps enc dec cipher.now) terms.now) buffer.old }
+    requires { length buffer.old ≡ terms.now.m * C.Block.ops.size }
+    ensures { buffer.new ≡ on_blocks C.Block.ops terms.now.m (first_pass C.Block.ops (maps C.enc C.dec cipher.now) terms.now) buffer.old }
 {
     multiply_by_powers(terms.r, terms.m, buffer);
 }
 
 // The second pass: the blocks CCC from the PP.
 pub fn second_pass<C: Cipher>(cipher: &C, terms: &Terms<C::Block>, buffer: &mut [u8])
-    requires { length buffer.old ≡ terms.now.m * C.Block.Block.ops.size }
-    ensures { buffer.new ≡ on_blocks C.Block.Block.ops terms.now.m (second_pass C.Block.Block.ops (maps enc dec cipher.now) terms.now) buffer.old }
+    requires { length buffer.old ≡ terms.now.m * C.Block.ops.size }
+    ensures { buffer.new ≡ on_blocks C.Block.ops terms.now.m (second_pass C.Block.ops (maps C.enc C.dec cipher.now) terms.now) buffer.old }
 {
     add_masks(cipher, terms, terms.en, terms.en, buffer);
     encrypt_all(cipher, terms.m, buffer);
@@ -34,8 +34,8 @@ pub fn second_pass<C: Cipher>(cipher: &C, terms: &Terms<C::Block>, buffer: &mut 
 
 // The third pass: the sealed blocks from the CCC.
 pub fn third_pass<C: Cipher>(cipher: &C, terms: &Terms<C::Block>, buffer: &mut [u8])
-    requires { length buffer.old ≡ terms.now.m * C.Block.Block.ops.size }
-    ensures { buffer.new ≡ on_blocks C.Block.Block.ops terms.now.m (third_pass C.Block.Block.ops (maps enc dec cipher.now) terms.now) buffer.old }
+    requires { length buffer.old ≡ terms.now.m * C.Block.ops.size }
+    ensures { buffer.new ≡ on_blocks C.Block.ops terms.now.m (third_pass C.Block.ops (maps C.enc C.dec cipher.now) terms.now) buffer.old }
 {
     let single = terms.een.double();
     let end = by_size(terms.m, terms.en, terms.een);

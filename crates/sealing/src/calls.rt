@@ -16,8 +16,8 @@ pub fn prepare<C: Cipher>(
     tweak: &[u8],
     len: usize,
 ) -> Result<(Terms<C::Block>, C::Block), SealFault>
-    ensures outcome { result ≡ prepared C.Block.Block.ops (maps enc dec cipher.now) tweak.now len }
-    ensures whole { Whole C.Block.Block.ops len result }
+    ensures outcome { result ≡ prepared C.Block.ops (maps C.enc C.dec cipher.now) tweak.now len }
+    ensures whole { Whole C.Block.ops len result }
 {
     let size = C::Block::size();
     if tweak.len() != size {
@@ -55,9 +55,9 @@ pub fn prepare<C: Cipher>(
 // Seals the text in `buffer` under the tweak, in its place. Refuses as `prepare` does (10, 11, 12, 13, in this order) and then leaves every byte.
 // One block is accepted under every tweak.
 pub fn seal<C: Cipher>(cipher: &C, tweak: &[u8], buffer: &mut [u8]) -> Result<(), SealFault>
-    ensures answers { result ≡ answer (sealing Block-as-Block.ops (maps enc dec cipher.now) tweak.now buffer.old) }
-    ensures leaves { buffer.new ≡ left (sealing Block-as-Block.ops (maps enc dec cipher.now) tweak.now buffer.old) buffer.old }
-    ensures promises { Promised Block-as-Block.ops (maps enc dec cipher.now) }
+    ensures answers { result ≡ answer (sealing C.Block.ops (maps C.enc C.dec cipher.now) tweak.now buffer.old) }
+    ensures leaves { buffer.new ≡ left (sealing C.Block.ops (maps C.enc C.dec cipher.now) tweak.now buffer.old) buffer.old }
+    ensures promises { Promised C.Block.ops (maps C.enc C.dec cipher.now) }
 {
     let (terms, _l) = prepare(cipher, tweak, buffer.len())?;
     seal_blocks(cipher, &terms, buffer);
@@ -66,9 +66,9 @@ pub fn seal<C: Cipher>(cipher: &C, tweak: &[u8], buffer: &mut [u8]) -> Result<()
 
 // Unseals the text in `buffer` under the tweak, in its place. Refuses as `seal` does, and then leaves every byte.
 pub fn unseal<C: Cipher>(cipher: &C, tweak: &[u8], buffer: &mut [u8]) -> Result<(), SealFault>
-    ensures answers { result ≡ answer (unsealing Block-as-Block.ops (maps enc dec cipher.now) tweak.now buffer.old) }
-    ensures leaves { buffer.new ≡ left (unsealing Block-as-Block.ops (maps enc dec cipher.now) tweak.now buffer.old) buffer.old }
-    ensures promises { Promised Block-as-Block.ops (maps enc dec cipher.now) }
+    ensures answers { result ≡ answer (unsealing C.Block.ops (maps C.enc C.dec cipher.now) tweak.now buffer.old) }
+    ensures leaves { buffer.new ≡ left (unsealing C.Block.ops (maps C.enc C.dec cipher.now) tweak.now buffer.old) buffer.old }
+    ensures promises { Promised C.Block.ops (maps C.enc C.dec cipher.now) }
 {
     let (terms, l) = prepare(cipher, tweak, buffer.len())?;
     unseal_blocks(cipher, &terms, l, buffer);

@@ -6,8 +6,8 @@ use kind::Block;
 
 // For every cipher: the sealing of texts of 512 bytes and its unsealing undo each other, and whether they are refused hangs on the tweak alone.
 pub fn seals_texts<C: Cipher>(_cipher: &C) -> u8
-    ensures lawful { Lawful (text_sealing Block-as-Block.ops enc dec) }
-    ensures decided { Decided Block-as-Block.ops enc dec }
+    ensures lawful { Lawful (text_sealing C.Block.ops C.enc C.dec) }
+    ensures decided { Decided C.Block.ops C.enc C.dec }
 {
     0
 }

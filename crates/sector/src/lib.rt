@@ -23,8 +23,8 @@ pub use ring::Ring;
 
 // How many sectors the image has. Refuses 1, 'the ring has no cipher or more than eight', then 2 and 3 as `layout::check_header` does.
 pub fn check_ring_and_image<C: Cipher>(image: &[u8], ring: &Ring<'_, C>) -> Result<usize, Fault>
-    ensures fits { IfOk result (λ n. Fitting Block-as-Block.ops.size image.now n) }
-    ensures outcome { result ≡ ruled (ring_and_image_checks (sectors Block-as-Block.ops enc dec) (ciphers_of ring.now) (image_view (sectors Block-as-Block.ops enc dec) (ciphers_of ring.now) image.now)) (count_of Block-as-Block.ops.size image.now) }
+    ensures fits { IfOk result (λ n. Fitting C.Block.ops.size image.now n) }
+    ensures outcome { result ≡ ruled (ring_and_image_checks (sectors C.Block.ops C.enc C.dec) (ciphers_of ring.now) (image_view (sectors C.Block.ops C.enc C.dec) (ciphers_of ring.now) image.now)) (count_of C.Block.ops.size image.now) }
 {
     if ring.size() < 1 || ring.size() > MOST_KEYS {
         return Err(Fault::RingSize);
@@ -34,8 +34,8 @@ pub fn check_ring_and_image<C: Cipher>(image: &[u8], ring: &Ring<'_, C>) -> Resu
 
 // Refuses 13, 'the tweak is dead', for a cipher at a sector of the card with this number.
 fn check_tweak<C: Cipher>(cipher: &C, number: &[u8], sector: usize) -> Result<(), SealFault>
-    requires { length number.now ≡ Block-as-Block.ops.size }
-    ensures { result ≡ refused_if ((sectors Block-as-Block.ops enc dec).dead cipher.now number.now sector) }
+    requires { length number.now ≡ C.Block.ops.size }
+    ensures { result ≡ refused_if ((sectors C.Block.ops C.enc C.dec).dead cipher.now number.now sector) }
 {
     let tweak: C::Block = sheet::sector_tweak(number, sector);
     let Some(_) = cipher.encrypt(tweak).inverse() else {
@@ -46,9 +46,9 @@ fn check_tweak<C: Cipher>(cipher: &C, number: &[u8], sector: usize) -> Result<()
 
 // Writes the tweak of a sector of the card with this number.
 fn write_tweak<K: Block>(number: &[u8], sector: usize, tweak: &mut [u8])
-    requires number_long { length number.now ≡ ops.size }
-    requires tweak_long { length tweak.old ≡ ops.size }
-    ensures { tweak.new ≡ ops.bytes (sector_tweak ops number.now sector) }
+    requires number_long { length number.now ≡ K.ops.size }
+    requires tweak_long { length tweak.old ≡ K.ops.size }
+    ensures { tweak.new ≡ K.ops.bytes (sector_tweak K.ops number.now sector) }
 {
     let block: K = sheet::sector_tweak(number, sector);
     block.store(tweak);
@@ -62,11 +62,11 @@ fn seal_text<C: Cipher>(
     text: &[u8],
     sealed: &mut [u8],
 ) -> Result<(), SealFault>
-    requires number_long { length number.now ≡ Block-as-Block.ops.size }
+    requires number_long { length number.now ≡ C.Block.ops.size }
     requires text_long { length text.now ≡ sector_length }
     requires sealed_long { length sealed.old ≡ sector_length }
-    ensures outcome { result ≡ refused_if ((sectors Block-as-Block.ops enc dec).dead cipher.now number.now sector) }
-    ensures sealed { sealed.new ≡ (sectors Block-as-Block.ops enc dec).sealed cipher.now number.now sector text.now }
+    ensures outcome { result ≡ refused_if ((sectors C.Block.ops C.enc C.dec).dead cipher.now number.now sector) }
+    ensures sealed { sealed.new ≡ (sectors C.Block.ops C.enc C.dec).sealed cipher.now number.now sector text.now }
 {
     let mut room = [0; 128];
     let tweak = &mut room[0..C::Block::size()];
@@ -83,11 +83,11 @@ fn unseal_text<C: Cipher>(
     sealed: &[u8],
     text: &mut [u8],
 ) -> Result<(), SealFault>
-    requires number_long { length number.now ≡ Block-as-Block.ops.size }
+    requires number_long { length number.now ≡ C.Block.ops.size }
     requires text_long { length text.old ≡ sector_length }
     requires sealed_long { length sealed.now ≡ sector_length }
-    ensures outcome { result ≡ refused_if ((sectors Block-as-Block.ops enc dec).dead cipher.now number.now sector) }
-    ensures text { text.new ≡ (sectors Block-as-Block.ops enc dec).unsealed cipher.now number.now sector sealed.now }
+    ensures outcome { result ≡ refused_if ((sectors C.Block.ops C.enc C.dec).dead cipher.now number.now sector) }
+    ensures text { text.new ≡ (sectors C.Block.ops C.enc C.dec).unsealed cipher.now number.now sector sealed.now }
 {
     let mut room = [0; 128];
     let tweak = &mut room[0..C::Block::size()];
@@ -104,10 +104,10 @@ pub fn load_text<C: Cipher>(
     sector: usize,
     text: &mut [u8],
 ) -> Result<usize, Fault>
-    requires inside { Inside Block-as-Block.ops.size image.now sector }
+    requires inside { Inside C.Block.ops.size image.now sector }
     requires text_long { length text.old ≡ sector_length }
-    ensures outcome { result ≡ ruled (source_checks (sectors Block-as-Block.ops enc dec) (ciphers_of ring.now) (image_view (sectors Block-as-Block.ops enc dec) (ciphers_of ring.now) image.now) sector) (key_of ((image_view (sectors Block-as-Block.ops enc dec) (ciphers_of ring.now) image.now).sector sector)) }
-    ensures text { IfOk result (λ k. (text.new ≡ text_of ((image_view (sectors Block-as-Block.ops enc dec) (ciphers_of ring.now) image.now).sector sector)) × (k < length (ciphers_of ring.now))) }
+    ensures outcome { result ≡ ruled (source_checks (sectors C.Block.ops C.enc C.dec) (ciphers_of ring.now) (image_view (sectors C.Block.ops C.enc C.dec) (ciphers_of ring.now) image.now) sector) (key_of ((image_view (sectors C.Block.ops C.enc C.dec) (ciphers_of ring.now) image.now).sector sector)) }
+    ensures text { IfOk result (λ k. (text.new ≡ text_of ((image_view (sectors C.Block.ops C.enc C.dec) (ciphers_of ring.now) image.now).sector sector)) × (k < length (ciphers_of ring.now))) }
 {
     let Entry::Sealed { key, bytes } = layout::entry_of(
         layout::record::<C::Block>(image, sector),
@@ -130,12 +130,12 @@ pub fn store_text<C: Cipher>(
     key: usize,
     text: &[u8],
 ) -> Result<(), Fault>
-    requires inside { Inside Block-as-Block.ops.size image.old sector }
+    requires inside { Inside C.Block.ops.size image.old sector }
     requires few { length (ciphers_of ring.now) ≤ most_keys }
     requires on_ring { key < length (ciphers_of ring.now) }
     requires text_long { length text.now ≡ sector_length }
-    ensures outcome { result ≡ verdict (dead_check (sectors Block-as-Block.ops enc dec) (ciphers_of ring.now) (image_view (sectors Block-as-Block.ops enc dec) (ciphers_of ring.now) image.old) sector key ∷ []) }
-    ensures image { image.new ≡ (if is_ok result then image_with (sectors Block-as-Block.ops enc dec) (ciphers_of ring.now) image.old (Changed sector (holds key text.now)) else image.old) }
+    ensures outcome { result ≡ verdict (dead_check (sectors C.Block.ops C.enc C.dec) (ciphers_of ring.now) (image_view (sectors C.Block.ops C.enc C.dec) (ciphers_of ring.now) image.old) sector key ∷ []) }
+    ensures image { image.new ≡ (if is_ok result then image_with (sectors C.Block.ops C.enc C.dec) (ciphers_of ring.now) image.old (Changed sector (holds key text.now)) else image.old) }
 {
     let mut sealed = [0; SECTOR_LENGTH];
     let number = layout::card_number::<C::Block>(image);
@@ -147,8 +147,8 @@ pub fn store_text<C: Cipher>(
 
 // Refuses 7, 8, 'a record marked blank holds a byte other than zero', and 13 for one sector.
 pub fn check_sector<C: Cipher>(image: &[u8], ring: &Ring<'_, C>, sector: usize) -> Result<(), Fault>
-    requires { Inside Block-as-Block.ops.size image.now sector }
-    ensures { result ≡ verdict (sector_checks (sectors Block-as-Block.ops enc dec) (ciphers_of ring.now) (image_view (sectors Block-as-Block.ops enc dec) (ciphers_of ring.now) image.now) sector 1) }
+    requires { Inside C.Block.ops.size image.now sector }
+    ensures { result ≡ verdict (sector_checks (sectors C.Block.ops C.enc C.dec) (ciphers_of ring.now) (image_view (sectors C.Block.ops C.enc C.dec) (ciphers_of ring.now) image.now) sector 1) }
 {
     let record = layout::record::<C::Block>(image, sector);
     match layout::entry_of(record, ring.size(), sector)? {

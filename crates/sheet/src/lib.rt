@@ -9,8 +9,8 @@ use kind::Block;
 
 // The tweak of a sector on the card with this number: card number ⊕ the block whose big-endian number is the sector.
 pub fn sector_tweak<K: Block>(number: &[u8], sector: usize) -> K
-    requires { length number.now ≡ ops.size }
-    ensures { result ≡ sector_tweak ops number.now sector }
+    requires { length number.now ≡ K.ops.size }
+    ensures { result ≡ sector_tweak K.ops number.now sector }
 {
     K::load(number).add(K::numbered(sector as u64))
 }

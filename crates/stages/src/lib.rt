@@ -50,7 +50,7 @@ impl<S: Drop> From<Refused<S>> for SealFault {
 
 // Begins a sealing of a buffer of `len` bytes. Refuses as a direct sealing does: 10, 11, 12, 13, in this order.
 pub fn begin<C: Cipher>(cipher: &C, tweak: &[u8], len: usize) -> Result<Begun<C::Block>, SealFault>
-    ensures { result ≡ beginning C.Block.Block.ops (maps enc dec cipher.now) tweak.now len }
+    ensures { result ≡ beginning C.Block.ops (maps C.enc C.dec cipher.now) tweak.now len }
 {
     let (terms, _l) = prepare(cipher, tweak, len)?;
     Ok(Begun { terms })
@@ -58,7 +58,7 @@ pub fn begin<C: Cipher>(cipher: &C, tweak: &[u8], len: usize) -> Result<Begun<C:
 
 // Whether a buffer of `len` bytes has m blocks.
 fn has_blocks<K: Block>(m: u16, len: usize) -> bool
-    ensures { result ≡ (len == m * ops.size) }
+    ensures { result ≡ (len == m * K.ops.size) }
 {
     len == m as usize * K::size()
 }
@@ -70,8 +70,8 @@ pub fn hash<C: Cipher>(
     stage: Begun<C::Block>,
     buffer: &mut [u8],
 ) -> Result<Hashed<C::Block>, Refused<Begun<C::Block>>>
-    ensures answers { result ≡ next_or_back C.Block.Block.ops stage.terms (length buffer.old) (hashed_after stage) stage }
-    ensures leaves { buffer.new ≡ after_pass C.Block.Block.ops stage.terms (first_pass C.Block.Block.ops (maps enc dec cipher.now) stage.terms) buffer.old }
+    ensures answers { result ≡ next_or_back C.Block.ops stage.terms (length buffer.old) (hashed_after stage) stage }
+    ensures leaves { buffer.new ≡ after_pass C.Block.ops stage.terms (first_pass C.Block.ops (maps C.enc C.dec cipher.now) stage.terms) buffer.old }
 {
     let Begun { terms } = stage;
     if !has_blocks::<C::Block>(terms.m, buffer.len()) {
@@ -90,8 +90,8 @@ pub fn encipher<C: Cipher>(
     stage: Hashed<C::Block>,
     buffer: &mut [u8],
 ) -> Result<Enciphered<C::Block>, Refused<Hashed<C::Block>>>
-    ensures answers { result ≡ next_or_back C.Block.Block.ops stage.terms (length buffer.old) (enciphered_after stage) stage }
-    ensures leaves { buffer.new ≡ after_pass C.Block.Block.ops stage.terms (second_pass C.Block.Block.ops (maps enc dec cipher.now) stage.terms) buffer.old }
+    ensures answers { result ≡ next_or_back C.Block.ops stage.terms (length buffer.old) (enciphered_after stage) stage }
+    ensures leaves { buffer.new ≡ after_pass C.Block.ops stage.terms (second_pass C.Block.ops (maps C.enc C.dec cipher.now) stage.terms) buffer.old }
 {
     let Hashed { terms } = stage;
     if !has_blocks::<C::Block>(terms.m, buffer.len()) {
@@ -110,8 +110,8 @@ pub fn finish<C: Cipher>(
     stage: Enciphered<C::Block>,
     buffer: &mut [u8],
 ) -> Result<(), Refused<Enciphered<C::Block>>>
-    ensures answers { result ≡ next_or_back C.Block.Block.ops stage.terms (length buffer.old) tt stage }
-    ensures leaves { buffer.new ≡ after_pass C.Block.Block.ops stage.terms (third_pass C.Block.Block.ops (maps enc dec cipher.now) stage.terms) buffer.old }
+    ensures answers { result ≡ next_or_back C.Block.ops stage.terms (length buffer.old) tt stage }
+    ensures leaves { buffer.new ≡ after_pass C.Block.ops stage.terms (third_pass C.Block.ops (maps C.enc C.dec cipher.now) stage.terms) buffer.old }
 {
     let Enciphered { terms } = stage;
     if !has_blocks::<C::Block>(terms.m, buffer.len()) {
@@ -130,8 +130,8 @@ pub fn seal_by_passes<C: Cipher>(
     tweak: &[u8],
     buffer: &mut [u8],
 ) -> Result<(), SealFault>
-    ensures answers { result ≡ answer (sealing Block-as-Block.ops (maps enc dec cipher.now) tweak.now buffer.old) }
-    ensures leaves { buffer.new ≡ left (sealing Block-as-Block.ops (maps enc dec cipher.now) tweak.now buffer.old) buffer.old }
+    ensures answers { result ≡ answer (sealing C.Block.ops (maps C.enc C.dec cipher.now) tweak.now buffer.old) }
+    ensures leaves { buffer.new ≡ left (sealing C.Block.ops (maps C.enc C.dec cipher.now) tweak.now buffer.old) buffer.old }
 {
     let begun = begin(cipher, tweak, buffer.len())?;
     let hashed = hash(cipher, begun, buffer)?;

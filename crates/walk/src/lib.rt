@@ -34,9 +34,9 @@ impl Entries<'_> {
 // long', and then 3, 'the image does not begin with 43 hex and its kind's code'. The walk itself ends at a record that it refuses: 7, 'the mark is neither 00 00
 // nor 4B hex with a number below eight', or 8, 'a record marked blank holds a byte other than zero'; both name the sector.
 pub fn walk<K: Block>(image: &[u8]) -> Result<Entries<'_>, Fault>
-    ensures outcome { begun result ≡ walk_of ops.size image.now }
+    ensures outcome { begun result ≡ walk_of K.ops.size image.now }
     ensures whole { IfOk result (λ e. Gives e (coming e)) }
-    ensures counted { IfOk result (λ e. e.count ≡ count_of ops.size image.now) }
+    ensures counted { IfOk result (λ e. e.count ≡ count_of K.ops.size image.now) }
     ensures ready { IfOk result Ready }
 {
     let count = layout::check_header::<K>(image)?;

@@ -39,7 +39,7 @@ fn check_entries(entries: Entries<'_>) -> Result<(), Fault>
 
 // The refusal of a walk over a whole image, or none.
 fn check_walk<K: Block>(image: &[u8]) -> Result<(), Fault>
-    ensures { result ≡ verdict (walk_of ops.size image.now) }
+    ensures { result ≡ verdict (walk_of K.ops.size image.now) }
 {
     match walk::walk::<K>(image) {
         Ok(entries) => check_entries(entries),
@@ -70,8 +70,8 @@ fn note_entry(codes: &mut [u64], sector: usize, entry: Entry<'_>)
 }
 
 fn walk_by<K: Block>(image: &[u8], codes: &mut [u64]) -> Outcome
-    ensures answers { result ≡ outcome (verdict (walk_of ops.size image.now)) }
-    ensures leaves { codes.new ≡ codes_after codes.old (walk_of ops.size image.now) }
+    ensures answers { result ≡ outcome (verdict (walk_of K.ops.size image.now)) }
+    ensures leaves { codes.new ≡ codes_after codes.old (walk_of K.ops.size image.now) }
 {
     if let Err(fault) = check_walk::<K>(image) {
         return card_outcome(Err(fault));

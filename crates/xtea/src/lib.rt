@@ -78,8 +78,8 @@ impl Cipher for Xtea {
 impl Xtea {
     // The encryption of a block of any kind that has 8 bytes.
     fn encrypt_in<K: Block>(&self, b: K) -> K
-        requires { ops.size ≡ 8 }
-        ensures { result ≡ through_bytes ops (encipher self.now.key) b }
+        requires { K.ops.size ≡ 8 }
+        ensures { result ≡ through_bytes K.ops (encipher self.now.key) b }
     {
         let mut bytes = [0; 8];
         b.store(&mut bytes);
@@ -89,8 +89,8 @@ impl Xtea {
 
     // The decryption of a block of any kind that has 8 bytes.
     fn decrypt_in<K: Block>(&self, b: K) -> K
-        requires { ops.size ≡ 8 }
-        ensures { result ≡ through_bytes ops (decipher self.now.key) b }
+        requires { K.ops.size ≡ 8 }
+        ensures { result ≡ through_bytes K.ops (decipher self.now.key) b }
     {
         let mut bytes = [0; 8];
         b.store(&mut bytes);

@@ -8,11 +8,11 @@ pub returns-then-places-eq0 : goal.returns-then-places-eq0
 returns-then-places-eq0 g c =
     let p = g.P.Poly in
     no_places p.width (p.value c.args.a) (count_leading_zeros p.width (p.value c.args.a)) (p.numbers.below c.args.a) refl
-    (omega (arith, c.places-of-places.ensures, c.if-places-eq0.true))
+    (omega (arith, c.places_of-places.ensures, c.if-places-eq0.true))
 
 pub returns : goal.returns
 returns g c =
     let p = g.P.Poly in
     let z : ℕ = count_leading_zeros p.width (p.value c.args.a) in
-    zeros_degree p.width (p.value c.args.a) z (c.places-of-places.result - 1) (p.numbers.below c.args.a) refl
-    (omega (arith, c.places-of-places.ensures, c.if-places-eq0.false))
+    zeros_degree p.width (p.value c.args.a) z (c.places_of-places.result - 1) (p.numbers.below c.args.a) refl
+    (omega (arith, c.places_of-places.ensures, c.if-places-eq0.false))

@@ -26,8 +26,8 @@ pub loop-ahead-init : goal.loop-ahead-init
 loop-ahead-init g c =
     let p = g.P.Poly in
     let b = divide.divide_begin p.width p.modulus p.field.fits p.field.wide (p.value c.args.u) (p.value c.plus-rest.result) (p.value c.shifted.result)
-    (p.value c.low-terms.result) (p.value c.zero-low.result) c.zeros-zeros.result c.requires (p.numbers.below c.args.u) c.zeros-zeros.ensures
-    c.shifted.ensures c.low-terms.ensures c.plus-rest.ensures c.zero-low.ensures in
+    (p.value c.low_terms.result) (p.value c.zero-low.result) c.zeros-zeros.result c.requires (p.numbers.below c.args.u) c.zeros-zeros.ensures
+    c.shifted.ensures c.low_terms.ensures c.plus-rest.ensures c.zero-low.ensures in
     (b.0, b.1, c.zeros-ahead.ensures)
 
 pub shifted-requires-in-loop-ahead : goal.shifted-requires-in-loop-ahead

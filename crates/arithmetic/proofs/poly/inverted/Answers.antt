@@ -17,15 +17,15 @@ pub returns-then-places-eq0 : goal.returns-then-places-eq0
 returns-then-places-eq0 g c =
     let p = g.P.Poly in
     no_places p.width (p.value c.args.a) (count_leading_zeros p.width (p.value c.args.a)) (p.numbers.below c.args.a) refl
-    (omega (arith, c.places-of-places.ensures, c.if-places-eq0.true))
+    (omega (arith, c.places_of-places.ensures, c.if-places-eq0.true))
 
 pub returns-then-places-eq1 : goal.returns-then-places-eq1
 returns-then-places-eq1 g c =
     let p = g.P.Poly in
     let a : ℕ = p.value c.args.a in
     let h : a < 2 ^ p.width = p.numbers.below c.args.a in
-    let ne : a ≢ 0 = nonzero p.width a c.places-of-places.result c.places-of-places.ensures c.if-places-eq0.false in
-    let z : p.width ≤ count_leading_zeros p.width a + 1 = omega (arith, c.places-of-places.ensures, c.if-places-eq1.true) in
+    let ne : a ≢ 0 = nonzero p.width a c.places_of-places.result c.places_of-places.ensures c.if-places-eq0.false in
+    let z : p.width ≤ count_leading_zeros p.width a + 1 = omega (arith, c.places_of-places.ensures, c.if-places-eq1.true) in
     let e : a ≡ 1 = divide.zeros_one p.width a h ne z in
     ap (mul p.width p.modulus a) e ∙ ring.mul_one_r p.width p.modulus p.field.fits a h ∙ e
 
@@ -34,7 +34,7 @@ divided-quotient-requires g c =
     let p = g.P.Poly in
     let a : ℕ = p.value c.args.a in
     let w : 1 < p.width = p.field.wide in
-    let m : count_leading_zeros p.width a + 1 < p.width = omega (arith, c.places-of-places.ensures, c.if-places-eq0.false, c.if-places-eq1.false) in
+    let m : count_leading_zeros p.width a + 1 < p.width = omega (arith, c.places_of-places.ensures, c.if-places-eq0.false, c.if-places-eq1.false) in
     divide.zeros_few p.width a (omega arith) m
 
 pub loop-big-init : goal.loop-big-init
@@ -44,7 +44,7 @@ loop-big-init g c =
     let q : ℕ = p.value c.divided-quotient.result.0 in
     let h : a < 2 ^ p.width = p.numbers.below c.args.a in
     let d = c.divided-quotient.ensures in
-    let ne : a ≢ 0 = nonzero p.width a c.places-of-places.result c.places-of-places.ensures c.if-places-eq0.false in
+    let ne : a ≢ 0 = nonzero p.width a c.places_of-places.result c.places_of-places.ensures c.if-places-eq0.false in
     let one : 1 < 2 ^ (count_leading_zeros p.width a + 1) = (let k : 0 < count_leading_zeros p.width a + 1 = omega arith in pow-lt k) in (
       record { falls = d.falls; over_lt = subst (λ (x : ℕ). x < 2 ^ (count_leading_zeros p.width a + 1)) (sym c.one-over.ensures) one; under_le = d.least; under_lt = d.most },
       sym (ap (λ (o : ℕ). mul p.width p.modulus o a) c.one-over.ensures ∙ ring.mul_one_l p.width p.modulus p.field.fits p.field.wide a h),
@@ -53,7 +53,7 @@ loop-big-init g c =
     )
 
 pub reduced-rest-requires : goal.reduced-rest-requires
-reduced-rest-requires g c = record { descent = c.loop-big.invariant.0; more = omega (arith, c.places-of.ensures, c.loop-big-test.true) }
+reduced-rest-requires g c = record { descent = c.loop-big.invariant.0; more = omega (arith, c.places_of.ensures, c.loop-big-test.true) }
 
 pub loop-big-preserved : goal.loop-big-preserved
 loop-big-preserved g c =
@@ -63,7 +63,7 @@ loop-big-preserved g c =
     let h : a < 2 ^ p.width = p.numbers.below c.args.a in
     let r = c.reduced-rest in
     let t : ℕ = p.value r.result.1 in
-    let ne : a ≢ 0 = nonzero p.width a c.places-of-places.result c.places-of-places.ensures c.if-places-eq0.false in
+    let ne : a ≢ 0 = nonzero p.width a c.places_of-places.result c.places_of-places.ensures c.if-places-eq0.false in
     let e = r.ensures.product a h l.invariant.1 l.invariant.2 in
     let tn : t ≢ 0 = (λ z. let k = r.ensures.descent.under_le in omega (arith, k, z, pow_pos (count_leading_zeros p.width (p.value l.small) + 1))) in
     (r.ensures.descent, l.invariant.2, e, λ z. p.field.laws.nonzero t a (p.numbers.below r.result.1) h tn ne (sym e ∙ z))
@@ -73,7 +73,7 @@ returns g c =
     let p = g.P.Poly in
     let l = c.loop-big in
     let a : ℕ = p.value c.args.a in
-    let z : p.width ≤ count_leading_zeros p.width (p.value l.small) + 1 = omega (arith, c.places-of.ensures, c.loop-big-test.false) in
+    let z : p.width ≤ count_leading_zeros p.width (p.value l.small) + 1 = omega (arith, c.places_of.ensures, c.loop-big-test.false) in
     ring.mul_comm p.width p.modulus p.field.fits p.field.wide a (p.value l.under) (p.numbers.below c.args.a) (p.numbers.below l.under)
     ∙ sym l.invariant.2
     ∙ divide.zeros_one p.width (p.value l.small) (p.numbers.below l.small) l.invariant.3 z

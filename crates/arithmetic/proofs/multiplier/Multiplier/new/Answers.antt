@@ -10,6 +10,6 @@ returns g c =
       of = refl;
       ready = record {
         lows = c.multiples.ensures;
-        highs = subst (λ (b : ℕ). Multiples p.width p.modulus p.value b c.multiples-2.result) c.by-sixteen.ensures c.multiples-2.ensures;
+        highs = subst (λ (b : ℕ). Multiples p.width p.modulus p.value b c.multiples-2.result) c.by_sixteen.ensures c.multiples-2.ensures;
       };
     }
