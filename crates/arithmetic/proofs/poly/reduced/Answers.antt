@@ -4,7 +4,7 @@ use lib.Count.{count_leading_zeros}
 use Rattle.field.proofs.Euclid as euclid
 use Rattle.arithmetic.proofs.poly.reduced.Given as given
 use Rattle.arithmetic.proofs.poly.reduced.Goals as goal
-use Rattle.arithmetic.proofs.poly.reduced.Goals.{After-zeros-ahead, at·returns}
+use Rattle.arithmetic.proofs.poly.reduced.Goals.{After-zeros-ahead}
 
 before : (g : given.Over) (c : After-zeros-ahead g) → let p = g.P.Poly in let z : ℕ = c.zeros-zeros.result in let y : ℕ = c.zeros.result in
     (p.value c.args.under < 2 ^ (c.zeros-ahead.result + 1))
@@ -78,7 +78,7 @@ returns g c =
     let i₂ : z + 1 + 1 ≡ z + 2 = omega arith in
     let ul : p.value c.args.under < 2 ^ (z + 1) =
     lt_of_lt_of_le (subst (λ (k : ℕ). p.value c.args.under < 2 ^ (k + 2)) (sym ey) d.under_lt) (pow_mono i₁) in
-    let b = before g (at·returns g c).After-zeros-ahead in
+    let b = before g (goal.at.returns g c).After-zeros-ahead in
     record {
       descent = record {
         falls = omega (arith, l.invariant.0, c.loop-ahead-test.false, ez);
