@@ -14,8 +14,8 @@ returns-in-Format g c =
     let ring = ciphers_of c.args.ring.now in
     let image = c.args.image.now in
     let n = vec_items c.in-Format.number in
-    let acts = rw c.as-slice-in-Format.ensures.value at (c.format.ensures ring) in
-    let bytes : Bytes n = rw c.as-slice.ensures.value at c.are_bytes.ensures in
+    let acts = rw c.as_slice-in-Format.ensures.value at (c.format.ensures ring) in
+    let bytes : Bytes n = rw c.as_slice.ensures.value at c.are_bytes.ensures in
     made S ring image c.args.call.now _ c.format.result c.format.new.image (format n) (format n)
     (ap call_of c.in-Format.is) refl bytes (ap (answered (format n)) acts.outcome) acts.image_is refl
 
@@ -26,9 +26,9 @@ returns-in-Read g c =
     let image = c.args.image.now in
     let s = c.in-Read.sector in
     let b = vec_items c.in-Read.buffer in
-    let reads = rw c.as-mut-slice.ensures.value at c.read.ensures in
-    let bytes : Bytes b = rw c.as-slice-in-Read.ensures.value at c.are-bytes-in-Read.ensures in
-    let long : length c.read.new.buffer ≡ c.in-Read.buffer.len = omega (arith, c.read.auto.buffer, c.as-mut-slice.ensures.len) in
+    let reads = rw c.as_mut_slice.ensures.value at c.read.ensures in
+    let bytes : Bytes b = rw c.as_slice-in-Read.ensures.value at c.are_bytes-in-Read.ensures in
+    let long : length c.read.new.buffer ≡ c.in-Read.buffer.len = omega (arith, c.read.auto.buffer, c.as_mut_slice.ensures.len) in
     let e = back_in c.in-Read.buffer.len c.read.new.buffer c.in-Read.buffer.items long in
     made S ring image c.args.call.now _ c.read.result image (read s b) (read s c.read.new.buffer)
     (ap call_of c.in-Read.is) (ap (read s) e) bytes (read_answer S ring image s b c.read.result c.read.new.buffer reads) (read_after S ring image s b) refl

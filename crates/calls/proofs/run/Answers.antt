@@ -22,13 +22,13 @@ loop-step-preserved g c =
     let xs = c.loop-step.steps in
     let i = c.loop-step.step-index in
     let d = c.step-item.result in
-    let y = c.make-step.new.step in
+    let y = c.make_step.new.step in
     let l : i < length xs = omega (arith, c.loop-step-test.true, c.loop-step.auto.steps) in
     let v = c.loop-step.invariant in (
-      image_again S ring xs i d y c.loop-step.image c.make-step.new.image l c.make-step.ensures ∙ v.0,
-      answers_again S ring xs i d y c.loop-step.image c.make-step.new.image l c.make-step.ensures ∙ v.1,
-      λ h. v.2 (given_again S ring xs i d y c.loop-step.image c.make-step.new.image l c.make-step.ensures h),
-      asked_set xs i d y l c.make-step.ensures.unchanged ∙ v.3,
+      image_again S ring xs i d y c.loop-step.image c.make_step.new.image l c.make_step.ensures ∙ v.0,
+      answers_again S ring xs i d y c.loop-step.image c.make_step.new.image l c.make_step.ensures ∙ v.1,
+      λ h. v.2 (given_again S ring xs i d y c.loop-step.image c.make_step.new.image l c.make_step.ensures h),
+      asked_set xs i d y l c.make_step.ensures.unchanged ∙ v.3,
     )
 
 pub returns : goal.returns

@@ -12,22 +12,22 @@ use Rattle.sheet.proofs.Outcomes.{reads_refused}
 use Rattle.card.proofs.Fronts.{before_read, passed_read}
 use Rattle.card.proofs.read.Goals as goal
 
-pub returns-in-err-count : goal.returns-in-err-count
-returns-in-err-count g c =
+pub returns-in_err-count : goal.returns-in_err-count
+returns-in_err-count g c =
     let S = sectors g.Block.Block.ops g.C.Cipher.enc g.C.Cipher.dec in
     let ring = ciphers_of c.args.ring.now in
     let image = c.args.image.now in
     let v = image_view S ring image in
-    reads_refused S ring image c.args.sector c.args.buffer.now [] (ring_and_image_checks S ring v) _ (count_of S.width image) c.in-err-count.field-0.0 c.from-residual.result refl tt c.in-err-count.ensures.outcome c.from-residual.ensures.1
+    reads_refused S ring image c.args.sector c.args.buffer.now [] (ring_and_image_checks S ring v) _ (count_of S.width image) c.in_err-count.field-0.0 c.from_residual.result refl tt c.in_err-count.ensures.outcome c.from_residual.ensures.1
 
-pub returns-in-err-load-text : goal.returns-in-err-load-text
-returns-in-err-load-text g c =
+pub returns-in_err-load_text : goal.returns-in_err-load_text
+returns-in_err-load_text g c =
     let S = sectors g.Block.Block.ops g.C.Cipher.enc g.C.Cipher.dec in
     let ring = ciphers_of c.args.ring.now in
     let image = c.args.image.now in
     let v = image_view S ring image in
     let s = c.args.sector in
     let b = c.args.buffer.now in
-    let n = c.in-ok-count.count in
-    let h = c.in-ok-count.ensures.outcome in
-    reads_refused S ring image s b (before_read S ring image n h s b) (source_checks S ring v s) [] (key_of (v.sector s)) c.in-err-load-text.field-0.0 c.from-residual-in-err-load-text.result refl (passed_read S ring image n h s b (omega arith) (omega arith)) c.in-err-load-text.ensures.outcome c.from-residual-in-err-load-text.ensures.1
+    let n = c.in_ok-count.count in
+    let h = c.in_ok-count.ensures.outcome in
+    reads_refused S ring image s b (before_read S ring image n h s b) (source_checks S ring v s) [] (key_of (v.sector s)) c.in_err-load_text.field-0.0 c.from_residual-in_err-load_text.result refl (passed_read S ring image n h s b (omega arith) (omega arith)) c.in_err-load_text.ensures.outcome c.from_residual-in_err-load_text.ensures.1

@@ -12,25 +12,25 @@ use Rattle.sheet.proofs.Outcomes.{acts_refused, acts_last, outcome_left}
 use Rattle.card.proofs.Fronts.{before_rekey, passed_rekey}
 use Rattle.card.proofs.rekey.Goals as goal
 
-pub returns-in-err-count : goal.returns-in-err-count
-returns-in-err-count g c =
+pub returns-in_err-count : goal.returns-in_err-count
+returns-in_err-count g c =
     let S = sectors g.Block.Block.ops g.C.Cipher.enc g.C.Cipher.dec in
     let ring = ciphers_of c.args.ring.now in
     let image = c.args.image.now in
     let v = image_view S ring image in
-    acts_refused S ring image (rekey c.args.sector c.args.new-key) [] (ring_and_image_checks S ring v) _ (count_of S.width image) c.in-err-count.field-0.0 c.from-residual.result refl tt c.in-err-count.ensures.outcome c.from-residual.ensures.1
+    acts_refused S ring image (rekey c.args.sector c.args.new_key) [] (ring_and_image_checks S ring v) _ (count_of S.width image) c.in_err-count.field-0.0 c.from_residual.result refl tt c.in_err-count.ensures.outcome c.from_residual.ensures.1
 
-pub returns-in-err--old-key : goal.returns-in-err--old-key
-returns-in-err--old-key g c =
+pub returns-in_err-_old_key : goal.returns-in_err-_old_key
+returns-in_err-_old_key g c =
     let S = sectors g.Block.Block.ops g.C.Cipher.enc g.C.Cipher.dec in
     let ring = ciphers_of c.args.ring.now in
     let image = c.args.image.now in
     let v = image_view S ring image in
     let s = c.args.sector in
-    let k = c.args.new-key in
-    let n = c.in-ok-count.count in
-    let h = c.in-ok-count.ensures.outcome in
-    acts_refused S ring image (rekey s k) (before_rekey S ring image n h s k) (source_checks S ring v s) _ (key_of (v.sector s)) c.in-err--old-key.field-0.0 c.from-residual-in-err--old-key.result refl (passed_rekey S ring image n h s k (omega arith) (omega arith)) c.in-err--old-key.ensures.outcome c.from-residual-in-err--old-key.ensures.1
+    let k = c.args.new_key in
+    let n = c.in_ok-count.count in
+    let h = c.in_ok-count.ensures.outcome in
+    acts_refused S ring image (rekey s k) (before_rekey S ring image n h s k) (source_checks S ring v s) _ (key_of (v.sector s)) c.in_err-_old_key.field-0.0 c.from_residual-in_err-_old_key.result refl (passed_rekey S ring image n h s k (omega arith) (omega arith)) c.in_err-_old_key.ensures.outcome c.from_residual-in_err-_old_key.ensures.1
 
 pub returns : goal.returns
 returns g c =
@@ -39,13 +39,13 @@ returns g c =
     let image = c.args.image.now in
     let v = image_view S ring image in
     let s = c.args.sector in
-    let k = c.args.new-key in
-    let n = c.in-ok-count.count in
-    let h = c.in-ok-count.ensures.outcome in
-    let q = ruled_ok (source_checks S ring v s) (key_of (v.sector s)) c.in-ok--old-key.-old-key (sym c.in-ok--old-key.ensures.outcome) in
+    let k = c.args.new_key in
+    let n = c.in_ok-count.count in
+    let h = c.in_ok-count.ensures.outcome in
+    let q = ruled_ok (source_checks S ring v s) (key_of (v.sector s)) c.in_ok-_old_key.-old-key (sym c.in_ok-_old_key.ensures.outcome) in
     let last : List Check = dead_check S ring v s k ∷ [] in
-    acts_last S ring image (rekey s k) (one s (holds k c.load-text.new.text)) last c.store-text.result c.store-text.new.image
+    acts_last S ring image (rekey s k) (one s (holds k c.load_text.new.text)) last c.store_text.result c.store_text.new.image
     (outcome_left S ring image (rekey s k) (before_rekey S ring image n h s k) (source_checks S ring v s) last refl (passed_rekey S ring image n h s k (omega arith) (omega arith)) q.0)
-    (ap (λ (x : List ℕ). one s (holds k x)) c.in-ok--old-key.ensures.text.0)
-    c.store-text.ensures.outcome
-    c.store-text.ensures.image
+    (ap (λ (x : List ℕ). one s (holds k x)) c.in_ok-_old_key.ensures.text.0)
+    c.store_text.ensures.outcome
+    c.store_text.ensures.image

@@ -11,10 +11,10 @@ use Rattle.sheet.specs.Parts.{ring_and_image_checks}
 use Rattle.sheet.proofs.Outcomes.{acts_refused}
 use Rattle.card.proofs.write.Goals as goal
 
-pub returns-in-err-count : goal.returns-in-err-count
-returns-in-err-count g c =
+pub returns-in_err-count : goal.returns-in_err-count
+returns-in_err-count g c =
     let S = sectors g.Block.Block.ops g.C.Cipher.enc g.C.Cipher.dec in
     let ring = ciphers_of c.args.ring.now in
     let image = c.args.image.now in
     let v = image_view S ring image in
-    acts_refused S ring image (write c.args.sector c.args.key c.args.text.now) [] (ring_and_image_checks S ring v) _ (count_of S.width image) c.in-err-count.field-0.0 c.from-residual.result refl tt c.in-err-count.ensures.outcome c.from-residual.ensures.1
+    acts_refused S ring image (write c.args.sector c.args.key c.args.text.now) [] (ring_and_image_checks S ring v) _ (count_of S.width image) c.in_err-count.field-0.0 c.from_residual.result refl tt c.in_err-count.ensures.outcome c.from_residual.ensures.1

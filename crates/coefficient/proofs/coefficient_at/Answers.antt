@@ -7,21 +7,21 @@ pub returns-then-rest-eq0 : goal.returns-then-rest-eq0
 returns-then-rest-eq0 g c =
     let o = g.K.Block.ops in
     let φ = o.mul o.x in
-    c.run-element.ensures ∙ at.at_none φ o.add o.one o.zero (c.args.m / 3) c.args.i
+    c.run_element.ensures ∙ at.at_none φ o.add o.one o.zero (c.args.m / 3) c.args.i
     ∙ at.at_rest φ o.add o.one o.zero c.args.m c.args.i 0 c.if-rest-eq0.true
 
 pub returns-then-i-lt4 : goal.returns-then-i-lt4
 returns-then-i-lt4 g c =
     let o = g.K.Block.ops in
     let φ = o.mul o.x in
-    at.head_four φ o.add o.one o.zero (c.args.m / 3) c.args.i c.head-element.result c.if-i-lt4.true c.head-element.ensures.inner c.head-element.ensures.outer
+    at.head_four φ o.add o.one o.zero (c.args.m / 3) c.args.i c.head_element.result c.if-i-lt4.true c.head_element.ensures.inner c.head_element.ensures.outer
     ∙ at.at_rest φ o.add o.one o.zero c.args.m c.args.i 1 c.if-rest-eq1.true
 
 pub returns-else-i-lt4 : goal.returns-else-i-lt4
 returns-else-i-lt4 g c =
     let o = g.K.Block.ops in
     let φ = o.mul o.x in
-    c.run-element-else-i-lt4.ensures
+    c.run_element-else-i-lt4.ensures
     ∙ sym (at.at_four_rest φ o.add o.one o.zero (c.args.m / 3) c.args.i c.if-i-lt4.false (omega arith))
     ∙ at.at_rest φ o.add o.one o.zero c.args.m c.args.i 1 c.if-rest-eq1.true
 
@@ -30,7 +30,7 @@ returns-then-i-lt5 g c =
     let o = g.K.Block.ops in
     let φ = o.mul o.x in
     let e : c.args.m % 3 ≡ 2 = omega arith in
-    at.head_five φ o.add o.one o.zero (c.args.m / 3) c.args.i c.head-element-then-i-lt5.result c.if-i-lt5.true c.head-element-then-i-lt5.ensures.inner c.head-element-then-i-lt5.ensures.outer
+    at.head_five φ o.add o.one o.zero (c.args.m / 3) c.args.i c.head_element-then-i-lt5.result c.if-i-lt5.true c.head_element-then-i-lt5.ensures.inner c.head_element-then-i-lt5.ensures.outer
     ∙ at.at_rest φ o.add o.one o.zero c.args.m c.args.i 2 e
 
 pub returns-else-i-lt5 : goal.returns-else-i-lt5
@@ -38,6 +38,6 @@ returns-else-i-lt5 g c =
     let o = g.K.Block.ops in
     let φ = o.mul o.x in
     let e : c.args.m % 3 ≡ 2 = omega arith in
-    c.run-element-else-i-lt5.ensures
+    c.run_element-else-i-lt5.ensures
     ∙ sym (at.at_five_rest φ o.add o.one o.zero (c.args.m / 3) c.args.i c.if-i-lt5.false (omega arith))
     ∙ at.at_rest φ o.add o.one o.zero c.args.m c.args.i 2 e

@@ -3,8 +3,8 @@ use Rattle.kind.specs.Polynomials.{poly_ops}
 use Rattle.coefficient.proofs.Places.{coefficient_degree, missing}
 use Rattle.coefficient.proofs.mask_degree.Goals as goal
 
-pub returns-in-default : goal.returns-in-default
-returns-in-default g c = let p = g.P.Poly in missing (poly_ops p.width p.modulus p.value p.numbers) c.args.m c.args.i (cc)
+pub returns-in_default : goal.returns-in_default
+returns-in_default g c = let p = g.P.Poly in missing (poly_ops p.width p.modulus p.value p.numbers) c.args.m c.args.i (cc)
 
 pub returns : goal.returns
 returns g c =

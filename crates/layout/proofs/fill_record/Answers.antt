@@ -6,5 +6,5 @@ use Rattle.layout.proofs.fill_record.Goals as goal
 
 pub returns : goal.returns
 returns c =
-    ap (λ (t : List ℕ). put_mid 2 512 (set (set c.args.rec.now 0 75) 1 c.args.key) t) c.copy-from-slice.ensures.after
+    ap (λ (t : List ℕ). put_mid 2 512 (set (set c.args.rec.now 0 75) 1 c.args.key) t) c.copy_from_slice.ensures.after
     ∙ filled c.args.rec.now c.args.bytes.now c.args.key c.requires.whole c.requires.long

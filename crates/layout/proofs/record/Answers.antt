@@ -10,6 +10,6 @@ returns g c =
     let image = c.args.image.now in
     let w = g.K.Block.ops.size in
     let s = c.args.sector in
-    let value = cut_record w image s c.record-start-start.result c.record-start-start.ensures in
+    let value = cut_record w image s c.record_start-start.result c.record_start-start.ensures in
     let l : 514 ≤ length (drop (record_start w s) image) = simp length-drop (omega (arith, c.requires.ends)) in
     record { value = value; long = ap length value ∙ length-take-le 514 (drop (record_start w s) image) l }

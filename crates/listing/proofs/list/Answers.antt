@@ -6,6 +6,6 @@ use Rattle.listing.proofs.list.Goals as goal
 
 pub loop-outcome-init : goal.loop-outcome-init
 loop-outcome-init c =
-    let it = c.into-iter-outcome-iterator.result in
+    let it = c.into_iter-outcome-iterator.result in
     let ready : Ready it = search rules in
     (ready, tt, omega (arith, few_coming it ready), refl)

@@ -17,10 +17,10 @@ returns g c =
     let n = c.args.number.now in
     let s = c.args.sector in
     let t = c.args.text.now in
-    let w = c.write-tweak.new.tweak in
-    let e = c.write-tweak.ensures in
-    let x : Text t = record { long = c.requires.text-long; bytes = λ i. (c.type-inv.text i).fits } in
-    let same = c.copy-from-slice.ensures.after in
+    let w = c.write_tweak.new.tweak in
+    let e = c.write_tweak.ensures in
+    let x : Text t = record { long = c.requires.text_long; bytes = λ i. (c.type_inv.text i).fits } in
+    let same = c.copy_from_slice.ensures.after in
     record {
       outcome = c.seal.ensures.answers ∙ ap (λ (y : List ℕ). answer (sealing F (maps enc dec k) w y)) same ∙ seal_outcome law enc dec back forth k n s w t e x;
       sealed = c.seal.ensures.leaves ∙ ap (λ (y : List ℕ). left (sealing F (maps enc dec k) w y) y) same ∙ seal_left law enc dec back forth k n s w t e;

@@ -17,10 +17,10 @@ returns g c =
     let n = c.args.number.now in
     let s = c.args.sector in
     let t = c.args.sealed.now in
-    let w = c.write-tweak.new.tweak in
-    let e = c.write-tweak.ensures in
-    let x : Text t = record { long = c.requires.sealed-long; bytes = λ i. (c.type-inv.sealed i).fits } in
-    let same = c.copy-from-slice.ensures.after in
+    let w = c.write_tweak.new.tweak in
+    let e = c.write_tweak.ensures in
+    let x : Text t = record { long = c.requires.sealed_long; bytes = λ i. (c.type_inv.sealed i).fits } in
+    let same = c.copy_from_slice.ensures.after in
     record {
       outcome = c.unseal.ensures.answers ∙ ap (λ (y : List ℕ). answer (unsealing F (maps enc dec k) w y)) same ∙ unseal_outcome law enc dec back forth k n s w t e x;
       text = c.unseal.ensures.leaves ∙ ap (λ (y : List ℕ). left (unsealing F (maps enc dec k) w y) y) same ∙ unseal_left law enc dec back forth k n s w t e;

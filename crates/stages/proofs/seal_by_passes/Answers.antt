@@ -15,16 +15,16 @@ returns g c =
     let b₁ = c.hash.new.buffer in
     let b₂ = c.encipher.new.buffer in
     let b₃ = c.finish.new.buffer in
-    let begun = c.in-ok-begun.begun in
-    let hashed = c.in-ok-hashed.hashed in
-    let enciphered = c.in-ok-enciphered.enciphered in
-    let p₁ = c.in-ok-hashed.ensures in
-    let p₂ = c.in-ok-enciphered.ensures in
-    let p₃ = c.in-ok-finish.ensures in
+    let begun = c.in_ok-begun.begun in
+    let hashed = c.in_ok-hashed.hashed in
+    let enciphered = c.in_ok-enciphered.enciphered in
+    let p₁ = c.in_ok-hashed.ensures in
+    let p₂ = c.in_ok-enciphered.ensures in
+    let p₃ = c.in_ok-finish.ensures in
     let e₁ : hashed.terms ≡ begun.terms = same_terms law k begun.terms (λ n. n.terms) (first_pass F k begun.terms) hashed (hashed_after begun) begun bs b₁ p₁.answers p₁.leaves in
     let e₂ : enciphered.terms ≡ begun.terms =
     same_terms law k hashed.terms (λ n. n.terms) (second_pass F k hashed.terms) enciphered (enciphered_after hashed) hashed b₁ b₂ p₂.answers p₂.leaves ∙ e₁ in
-    let r = in_order law k c.args.tweak.now bs begun b₁ b₂ b₃ c.in-ok-begun.ensures
+    let r = in_order law k c.args.tweak.now bs begun b₁ b₂ b₃ c.in_ok-begun.ensures
     (changed law k begun.terms (first_pass F k begun.terms) hashed (hashed_after begun) begun bs b₁ p₁.answers p₁.leaves)
     (changed law k hashed.terms (second_pass F k hashed.terms) enciphered (enciphered_after hashed) hashed b₁ b₂ p₂.answers p₂.leaves
     ∙ ap (λ s. on_blocks F s.m (second_pass F k s) b₁) e₁)

@@ -12,11 +12,11 @@ pub returns : goal.returns
 returns g c =
     let w = g.K.Block.ops.size in
     let image = c.args.image.now in
-    let n = c.in-ok-count.count in
+    let n = c.in_ok-count.count in
     let h = c.header_length.result in
     let head = c.header_length.ensures.value in
-    let fits = c.in-ok-count.ensures.fits in
-    let passed = ruled_ok (head_checks w image) (count_of w image) n (sym c.in-ok-count.ensures.outcome) in
+    let fits = c.in_ok-count.ensures.fits in
+    let passed = ruled_ok (head_checks w image) (count_of w image) n (sym c.in_ok-count.ensures.outcome) in
     let all : n - 0 ≡ count_of w image = omega (arith, passed.1) in
     let begun : Entries = record { image = c.args.image; start = h; next = 0; count = n } in
     record {

@@ -25,10 +25,10 @@ pub loop-i-preserved : goal.loop-i-preserved
 loop-i-preserved c =
     let w : List ℕ = c.loop-i.w in
     let i : ℕ = c.loop-i.i in
-    let x : List ℕ = c.next-word.result in (
+    let x : List ℕ = c.next_word.result in (
       simp length-set c.loop-i.invariant.0,
       take_four w (4 * i) (4 * (i + 1)) (get_or x 0 0) (get_or x 1 0) (get_or x 2 0) (get_or x 3 0) (omega arith) (omega arith)
-          ∙ ap (λ y. take (4 * i) w ++ y) (word_is w i x c.next-word.ensures)
+          ∙ ap (λ y. take (4 * i) w ++ y) (word_is w i x c.next_word.ensures)
           ∙ expanded_more c.args.key.now w i c.loop-i.auto.i c.loop-i.invariant.1,
     )
 

@@ -5,4 +5,4 @@ use Rattle.aes.proofs.schedule.next_word.Goals as goal
 
 pub returns : goal.returns
 unfolding next_word
-returns c = c.xor_words.ensures ∙ ap₂ xor_words c.word-at.ensures c.added-word.ensures
+returns c = c.xor_words.ensures ∙ ap₂ xor_words c.word_at.ensures c.added_word.ensures

@@ -8,4 +8,4 @@ use Rattle.capi.proofs.blocks.cardlock_aes_encrypt.Goals as goal
 pub returns : goal.returns
 returns c =
     let m = aes_maps c.new.result c.args.key.now c.new.ensures in
-    c.encrypt-by.ensures ∙ ap (λ m. on_block wide_ops m.E c.args.block.now) m
+    c.encrypt_by.ensures ∙ ap (λ m. on_block wide_ops m.E c.args.block.now) m

@@ -10,4 +10,4 @@ returns c =
     let w = c.whitened_under.result in
     let e = c.whitened_under.ensures in
     let m = whitened_maps w.inner w.before w.after c.args.key.now e.inner e.before e.after in
-    c.decrypt-by.ensures ∙ ap (λ m. on_block short_ops m.D c.args.block.now) m
+    c.decrypt_by.ensures ∙ ap (λ m. on_block short_ops m.D c.args.block.now) m

@@ -8,4 +8,4 @@ use Rattle.capi.proofs.blocks.cardlock_xtea_decrypt.Goals as goal
 pub returns : goal.returns
 returns c =
     let m = xtea_maps c.new.result c.args.key.now c.new.ensures in
-    c.decrypt-by.ensures ∙ ap (λ m. on_block short_ops m.D c.args.block.now) m
+    c.decrypt_by.ensures ∙ ap (λ m. on_block short_ops m.D c.args.block.now) m

@@ -9,6 +9,6 @@ pub returns : goal.returns
 returns c =
     let m = aes_maps c.new.result c.args.key.now c.new.ensures in
     record {
-      answers = c.seal-by.ensures.answers ∙ ap (λ m. seal_outcome wide_ops m c.args.tweak.now c.args.buffer.now) m;
-      leaves = c.seal-by.ensures.leaves ∙ ap (λ m. seal_leaves wide_ops m c.args.tweak.now c.args.buffer.now) m;
+      answers = c.seal_by.ensures.answers ∙ ap (λ m. seal_outcome wide_ops m c.args.tweak.now c.args.buffer.now) m;
+      leaves = c.seal_by.ensures.leaves ∙ ap (λ m. seal_leaves wide_ops m c.args.tweak.now c.args.buffer.now) m;
     }

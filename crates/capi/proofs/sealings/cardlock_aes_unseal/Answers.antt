@@ -9,6 +9,6 @@ pub returns : goal.returns
 returns c =
     let m = aes_maps c.new.result c.args.key.now c.new.ensures in
     record {
-      answers = c.unseal-by.ensures.answers ∙ ap (λ m. unseal_outcome wide_ops m c.args.tweak.now c.args.buffer.now) m;
-      leaves = c.unseal-by.ensures.leaves ∙ ap (λ m. unseal_leaves wide_ops m c.args.tweak.now c.args.buffer.now) m;
+      answers = c.unseal_by.ensures.answers ∙ ap (λ m. unseal_outcome wide_ops m c.args.tweak.now c.args.buffer.now) m;
+      leaves = c.unseal_by.ensures.leaves ∙ ap (λ m. unseal_leaves wide_ops m c.args.tweak.now c.args.buffer.now) m;
     }

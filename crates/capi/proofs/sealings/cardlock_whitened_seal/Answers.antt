@@ -11,6 +11,6 @@ returns c =
     let e = c.whitened_under.ensures in
     let m = whitened_maps w.inner w.before w.after c.args.key.now e.inner e.before e.after in
     record {
-      answers = c.seal-by.ensures.answers ∙ ap (λ m. seal_outcome short_ops m c.args.tweak.now c.args.buffer.now) m;
-      leaves = c.seal-by.ensures.leaves ∙ ap (λ m. seal_leaves short_ops m c.args.tweak.now c.args.buffer.now) m;
+      answers = c.seal_by.ensures.answers ∙ ap (λ m. seal_outcome short_ops m c.args.tweak.now c.args.buffer.now) m;
+      leaves = c.seal_by.ensures.leaves ∙ ap (λ m. seal_leaves short_ops m c.args.tweak.now c.args.buffer.now) m;
     }

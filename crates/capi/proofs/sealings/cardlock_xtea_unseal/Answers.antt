@@ -9,6 +9,6 @@ pub returns : goal.returns
 returns c =
     let m = xtea_maps c.new.result c.args.key.now c.new.ensures in
     record {
-      answers = c.unseal-by.ensures.answers ∙ ap (λ m. unseal_outcome short_ops m c.args.tweak.now c.args.buffer.now) m;
-      leaves = c.unseal-by.ensures.leaves ∙ ap (λ m. unseal_leaves short_ops m c.args.tweak.now c.args.buffer.now) m;
+      answers = c.unseal_by.ensures.answers ∙ ap (λ m. unseal_outcome short_ops m c.args.tweak.now c.args.buffer.now) m;
+      leaves = c.unseal_by.ensures.leaves ∙ ap (λ m. unseal_leaves short_ops m c.args.tweak.now c.args.buffer.now) m;
     }

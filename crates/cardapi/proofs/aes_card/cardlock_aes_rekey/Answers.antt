@@ -7,6 +7,6 @@ use Rattle.cardapi.proofs.aes_card.cardlock_aes_rekey.Goals as goal
 
 pub returns : goal.returns
 returns c = record {
-  few = λ h. (take (length c.args.keys.now - 0) c.aes-ring.result, ring_of aes_parts key_expansion 16 c.args.keys.now c.aes-ring.result h c.aes-ring.ensures, c.rekey-on.ensures);
+  few = λ h. (take (length c.args.keys.now - 0) c.aes_ring.result, ring_of aes_parts key_expansion 16 c.args.keys.now c.aes_ring.result h c.aes_ring.ensures, c.rekey_on.ensures);
   many = λ h. absurd (omega arith);
 }

@@ -6,4 +6,4 @@ use Rattle.cardapi.proofs.made.format_on.Goals as goal
 pub returns : goal.returns
 returns g c =
     let a = c.format.ensures [] in
-    record { outcome_is = c.card-outcome.ensures ∙ ap outcome a.outcome; image_is = a.image_is }
+    record { outcome_is = c.card_outcome.ensures ∙ ap outcome a.outcome; image_is = a.image_is }

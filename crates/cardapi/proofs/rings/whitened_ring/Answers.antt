@@ -3,4 +3,4 @@ use Rattle.std.proofs.Common.{◌∷◌, refl, ap₂}
 use Rattle.cardapi.proofs.rings.whitened_ring.Goals as goal
 
 pub returns : goal.returns
-returns c = ap₂ ◌∷◌ c.whitened-at.ensures (ap₂ ◌∷◌ c.whitened-at-2.ensures (ap₂ ◌∷◌ c.whitened-at-3.ensures (ap₂ ◌∷◌ c.whitened-at-4.ensures (ap₂ ◌∷◌ c.whitened-at-5.ensures (ap₂ ◌∷◌ c.whitened-at-6.ensures (ap₂ ◌∷◌ c.whitened-at-7.ensures (ap₂ ◌∷◌ c.whitened-at-8.ensures refl)))))))
+returns c = ap₂ ◌∷◌ c.whitened_at.ensures (ap₂ ◌∷◌ c.whitened_at-2.ensures (ap₂ ◌∷◌ c.whitened_at-3.ensures (ap₂ ◌∷◌ c.whitened_at-4.ensures (ap₂ ◌∷◌ c.whitened_at-5.ensures (ap₂ ◌∷◌ c.whitened_at-6.ensures (ap₂ ◌∷◌ c.whitened_at-7.ensures (ap₂ ◌∷◌ c.whitened_at-8.ensures refl)))))))

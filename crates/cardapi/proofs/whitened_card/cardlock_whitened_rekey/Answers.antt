@@ -6,6 +6,6 @@ use Rattle.cardapi.proofs.whitened_card.cardlock_whitened_rekey.Goals as goal
 
 pub returns : goal.returns
 returns c = record {
-  few = λ h. (take (length c.args.keys.now - 0) c.whitened-ring.result, ring_of whitened_parts whitened_made 32 c.args.keys.now c.whitened-ring.result h c.whitened-ring.ensures, c.rekey-on.ensures);
+  few = λ h. (take (length c.args.keys.now - 0) c.whitened_ring.result, ring_of whitened_parts whitened_made 32 c.args.keys.now c.whitened_ring.result h c.whitened_ring.ensures, c.rekey_on.ensures);
   many = λ h. absurd (omega arith);
 }

@@ -7,6 +7,6 @@ use Rattle.cardapi.proofs.xtea_card.cardlock_xtea_read.Goals as goal
 
 pub returns : goal.returns
 returns c = record {
-  few = λ h. (take (length c.args.keys.now - 0) c.xtea-ring.result, ring_of xtea_parts key_words 16 c.args.keys.now c.xtea-ring.result h c.xtea-ring.ensures, c.read-on.ensures);
+  few = λ h. (take (length c.args.keys.now - 0) c.xtea_ring.result, ring_of xtea_parts key_words 16 c.args.keys.now c.xtea_ring.result h c.xtea_ring.ensures, c.read_on.ensures);
   many = λ h. absurd (omega arith);
 }

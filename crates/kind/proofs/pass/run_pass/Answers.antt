@@ -6,15 +6,15 @@ use Rattle.kind.proofs.Overs.{at_none, at_next, at_all, at_end}
 use Rattle.kind.proofs.pass.run_pass.Goals as goal
 
 pub loop-i-init : goal.loop-i-init
-loop-i-init g c = (λ i. (c.type-inv.buf i).fits, at_none g.S.Step.out g.S.Step.next c.args.s.now (blocks g.K.Block.ops c.args.m c.args.buf.now))
+loop-i-init g c = (λ i. (c.type_inv.buf i).fits, at_none g.S.Step.out g.S.Step.next c.args.s.now (blocks g.K.Block.ops c.args.m c.args.buf.now))
 
 pub loop-i-preserved : goal.loop-i-preserved
 loop-i-preserved g c =
     let o = g.K.Block.ops in
     let h : c.loop-i.i < length (blocks o c.args.m c.args.buf.now) = omega (arith, blocks_length o c.args.m c.args.buf.now) in (
-      λ i. (c.type-inv.buf i).fits,
-      at_next g.S.Step.out g.S.Step.next c.args.s.now (blocks o c.args.m c.args.buf.now) (blocks o c.args.m c.loop-i.buf) _ c.loop-i.i c.loop-i.s _ c.load-block-b.result c.step-r.result h
-          c.loop-i.invariant.1 c.load-block-b.ensures c.step-r.ensures.value c.store-block.ensures c.step-r.ensures.state,
+      λ i. (c.type_inv.buf i).fits,
+      at_next g.S.Step.out g.S.Step.next c.args.s.now (blocks o c.args.m c.args.buf.now) (blocks o c.args.m c.loop-i.buf) _ c.loop-i.i c.loop-i.s _ c.load_block-b.result c.step-r.result h
+          c.loop-i.invariant.1 c.load_block-b.ensures c.step-r.ensures.value c.store_block.ensures c.step-r.ensures.state,
     )
 
 pub returns : goal.returns

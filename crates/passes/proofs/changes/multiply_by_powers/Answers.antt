@@ -5,4 +5,4 @@ use Rattle.passes.proofs.changes.multiply_by_powers.Goals as goal
 
 pub returns : goal.returns
 returns g c =
-    powers_made g.met.K.Block.laws c.args.m c.saturating-sub-left.result c.args.r c.args.buffer.now _ (omega arith) c.run-pass.ensures.value
+    powers_made g.met.K.Block.laws c.args.m c.saturating_sub-left.result c.args.r c.args.buffer.now _ (omega arith) c.run_pass.ensures.value

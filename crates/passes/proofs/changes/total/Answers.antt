@@ -13,7 +13,7 @@ pub loop-i-preserved : goal.loop-i-preserved
 loop-i-preserved g c =
     let xs = blocks g.K.Block.ops c.args.m c.args.buffer.now in
     let h : c.loop-i.i < length xs = omega (arith, blocks_length g.K.Block.ops c.args.m c.args.buffer.now) in
-    sum_more g.met.K.Block.laws xs c.loop-i.i c.load-block-b.result c.loop-i.t c.add-t.result _ h c.load-block-b.ensures c.add-t.ensures c.loop-i.invariant
+    sum_more g.met.K.Block.laws xs c.loop-i.i c.load_block-b.result c.loop-i.t c.add-t.result _ h c.load_block-b.ensures c.add-t.ensures c.loop-i.invariant
 
 pub returns : goal.returns
 returns g c =

@@ -12,4 +12,4 @@ returns g c =
     let k = maps g.C.Cipher.enc g.C.Cipher.dec c.args.cipher.now in
     let t = c.args.terms.now in
     let old = c.args.buffer.now in
-    c.multiply-by-powers.ensures ∙ ap (flat F) (first_agrees g.met.Block.Block.laws k t (blocks F t.m old) (blocks_length F t.m old))
+    c.multiply_by_powers.ensures ∙ ap (flat F) (first_agrees g.met.Block.Block.laws k t (blocks F t.m old) (blocks_length F t.m old))

@@ -23,19 +23,19 @@ returns g c =
     let single = F.mul F.x t.een in
     let end = by_count t.m t.een t.een t.en in
     let b0 = c.args.buffer.now in
-    let b1 = c.multiply-by-powers.new.buffer in
-    let b2 = c.add-masks.new.buffer in
-    let b3 = c.decrypt-all.new.buffer in
-    let b4 = c.add-masks-2.new.buffer in
-    let b5 = c.multiply-by-powers-2.new.buffer in
+    let b1 = c.multiply_by_powers.new.buffer in
+    let b2 = c.add_masks.new.buffer in
+    let b3 = c.decrypt_all.new.buffer in
+    let b4 = c.add_masks-2.new.buffer in
+    let b5 = c.multiply_by_powers-2.new.buffer in
     let f2 = masked F E (mask F t single) t.een in
     let f4 = masked F E (mask F t t.en) end in
     then law t.m (λ ks. f4 (map D (f2 (times_powers F l ks)))) (times_powers F l) b0 b4 b5 (λ ks. length_each _ 0 _ ∙ length-map _ D ∙ length_each _ 0 _ ∙ length_each _ 0 ks)
     (then law t.m (λ ks. map D (f2 (times_powers F l ks))) f4 b0 b3 b4 (λ ks. length-map _ D ∙ length_each _ 0 _ ∙ length_each _ 0 ks)
     (then law t.m (λ ks. f2 (times_powers F l ks)) (map D) b0 b2 b3 (λ ks. length_each _ 0 _ ∙ length_each _ 0 ks)
-    (then law t.m (times_powers F l) f2 b0 b1 b2 (λ ks. length_each _ 0 ks) c.multiply-by-powers.ensures
-    (c.add-masks.ensures ∙ ap (λ s. on_blocks F t.m (masked F E (mask F t s) t.een) b1) c.double-single.ensures))
-    c.decrypt-all.ensures)
-    (c.add-masks-2.ensures ∙ ap (λ e. on_blocks F t.m (masked F E (mask F t t.en) e) b3) c.by-size-end.ensures))
-    c.multiply-by-powers-2.ensures
+    (then law t.m (times_powers F l) f2 b0 b1 b2 (λ ks. length_each _ 0 ks) c.multiply_by_powers.ensures
+    (c.add_masks.ensures ∙ ap (λ s. on_blocks F t.m (masked F E (mask F t s) t.een) b1) c.double-single.ensures))
+    c.decrypt_all.ensures)
+    (c.add_masks-2.ensures ∙ ap (λ e. on_blocks F t.m (masked F E (mask F t t.en) e) b3) c.by_size-end.ensures))
+    c.multiply_by_powers-2.ensures
     ∙ ap (flat F) (unsealed_agrees law k t (blocks F t.m b0) (blocks_length F t.m b0) l)

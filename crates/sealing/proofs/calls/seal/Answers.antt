@@ -6,16 +6,16 @@ use Rattle.sealing.proofs.Checks.{outcome_ok, outcome_err}
 use Rattle.sealing.proofs.Trips.{promises}
 use Rattle.sealing.proofs.calls.seal.Goals as goal
 
-pub returns-in-err-terms : goal.returns-in-err-terms
+pub returns-in_err-terms : goal.returns-in_err-terms
 unfolding Promised
-returns-in-err-terms g c =
+returns-in_err-terms g c =
     let F = g.Block.Block.ops in
     let k = c.args.cipher.now in
     let m = maps g.C.Cipher.enc g.C.Cipher.dec k in
     let T = c.args.tweak.now in
     let bs = c.args.buffer.now in
     let p = outcome_err F (length T) (length bs) (F.inverse (m.E (F.block T))) (λ L. (begun F m (F.block T) (length bs / F.size), L)) (λ p. on_blocks F p.0.m (sealed F m p.0) bs)
-    c.from-residual.result c.in-err-terms.field-0.0 bs c.in-err-terms.ensures.outcome c.from-residual.ensures.1 in
+    c.from_residual.result c.in_err-terms.field-0.0 bs c.in_err-terms.ensures.outcome c.from_residual.ensures.1 in
     record {
       answers = p.0;
       leaves = p.1;
@@ -31,7 +31,7 @@ returns g c =
     let T = c.args.tweak.now in
     let bs = c.args.buffer.now in
     let p = outcome_ok F (length T) (length bs) (F.inverse (m.E (F.block T))) (λ L. (begun F m (F.block T) (length bs / F.size), L)) (λ p. on_blocks F p.0.m (sealed F m p.0) bs)
-    (c.in-ok-terms.terms, c.in-ok-terms.-l) bs c.seal-blocks.new.buffer c.in-ok-terms.ensures.outcome c.seal-blocks.ensures in
+    (c.in_ok-terms.terms, c.in_ok-terms.-l) bs c.seal_blocks.new.buffer c.in_ok-terms.ensures.outcome c.seal_blocks.ensures in
     record {
       answers = p.0;
       leaves = p.1;

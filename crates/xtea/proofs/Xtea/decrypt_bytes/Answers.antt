@@ -10,7 +10,7 @@ loop-i-init c = sym (repeat_none (inv_cycle c.args.self.now.key) c.start-w.resul
 
 pub loop-i-preserved : goal.loop-i-preserved
 loop-i-preserved c =
-    c.inv-cycle-w.ensures ∙ ap (inv_cycle c.args.self.now.key) c.loop-i.invariant
+    c.inv_cycle-w.ensures ∙ ap (inv_cycle c.args.self.now.key) c.loop-i.invariant
     ∙ sym (repeat_more (inv_cycle c.args.self.now.key) c.loop-i.-i c.start-w.result)
 
 pub returns : goal.returns

@@ -5,10 +5,10 @@ use Rattle.aes.proofs.RoundSteps.{rounds_none, rounds_more}
 use Rattle.aes.proofs.keyed.Aes.encrypt_bytes.Goals as goal
 
 pub loop-round-init : goal.loop-round-init
-loop-round-init c = sym (rounds_none c.args.self.now.keys c.add-round-key-t.result)
+loop-round-init c = sym (rounds_none c.args.self.now.keys c.add_round_key-t.result)
 
 pub loop-round-preserved : goal.loop-round-preserved
-loop-round-preserved c = let e = rounds_more c.args.self.now.keys c.loop-round.round c.add-round-key-t.result (omega arith) in cc
+loop-round-preserved c = let e = rounds_more c.args.self.now.keys c.loop-round.round c.add_round_key-t.result (omega arith) in cc
 
 pub returns : goal.returns
 unfolding cipher

@@ -5,4 +5,4 @@ use Rattle.poly.proofs.Octets.{number_eight}
 use Rattle.poly.proofs.field.ShortField.read.Goals as goal
 
 pub returns : goal.returns
-returns c = c.from-be-bytes.ensures ∙ number_eight c.args.from.now (omega (arith, c.requires))
+returns c = c.from_be_bytes.ensures ∙ number_eight c.args.from.now (omega (arith, c.requires))

@@ -9,6 +9,6 @@ use Rattle.poly.proofs.field.ShortField.write.Goals as goal
 
 pub returns : goal.returns
 returns c =
-    let e : c.to-be-bytes.result ≡ bytes 8 c.args.self.word = c.to-be-bytes.ensures ∙ bytes_eight c.args.self.word in
+    let e : c.to_be_bytes.result ≡ bytes 8 c.args.self.word = c.to_be_bytes.ensures ∙ bytes_eight c.args.self.word in
     let l : length c.args.into.now ≡ 8 = omega (arith, c.requires) in
     search (rules, e) ∙ ap (λ k. bytes k c.args.self.word) (sym l)

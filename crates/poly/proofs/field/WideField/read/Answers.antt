@@ -5,4 +5,4 @@ use Rattle.poly.proofs.Octets.{number_sixteen}
 use Rattle.poly.proofs.field.WideField.read.Goals as goal
 
 pub returns : goal.returns
-returns c = c.parted.ensures ∙ c.from-be-bytes.ensures ∙ number_sixteen c.args.from.now (omega (arith, c.requires))
+returns c = c.parted.ensures ∙ c.from_be_bytes.ensures ∙ number_sixteen c.args.from.now (omega (arith, c.requires))

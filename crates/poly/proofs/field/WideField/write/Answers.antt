@@ -11,6 +11,6 @@ use Rattle.poly.proofs.field.WideField.write.Goals as goal
 pub returns : goal.returns
 returns c =
     let v = number c.args.self in
-    let e : c.to-be-bytes-all.result ≡ bytes 16 v = c.to-be-bytes-all.ensures ∙ bytes_sixteen c.joined.result ∙ ap (bytes 16) c.joined.ensures in
+    let e : c.to_be_bytes-all.result ≡ bytes 16 v = c.to_be_bytes-all.ensures ∙ bytes_sixteen c.joined.result ∙ ap (bytes 16) c.joined.ensures in
     let l : length c.args.into.now ≡ 16 = omega (arith, c.requires) in
     search (rules, e) ∙ ap (λ k. bytes k v) (sym l)

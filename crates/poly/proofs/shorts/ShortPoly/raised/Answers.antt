@@ -6,8 +6,8 @@ use Rattle.field.proofs.Raised.{raised64}
 use Rattle.field.proofs.Window.{raise_lt}
 use Rattle.poly.proofs.shorts.ShortPoly.raised.Goals as goal
 
-pub invariant-of-result : goal.invariant-of-result
-invariant-of-result c =
+pub invariant_of-result : goal.invariant_of-result
+invariant_of-result c =
     (subst (λ (x : ℕ). x < 2 ^ 64) (sym (raised64 c.args.self.word c.args.self.fits)) (raise_lt 64 0x1b (lit< tt) 8 c.args.self.word c.args.self.fits), tt)
 
 pub returns : goal.returns
