@@ -1,13 +1,13 @@
 // The elements of the two kinds: polynomials of 64 coefficients, the short kind, and of 128, the wide kind, with their product and their bytes.
 #![tactic(auto)]
 
-mod field;
+mod fields;
 mod short;
 mod shorts;
 mod wide;
 mod wides;
 
 pub use arithmetic::{Poly, degree, inverted};
-pub use field::Field;
+pub use fields::Field;
 pub use short::Short;
 pub use wide::Wide;

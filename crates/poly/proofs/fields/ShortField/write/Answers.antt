@@ -5,7 +5,7 @@ use native.Mathlib.Omega.{arith}
 use borrow.Author.Rules.{rules}
 use Rattle.field.specs.Bytes.{bytes}
 use Rattle.poly.proofs.Octets.{bytes_eight}
-use Rattle.poly.proofs.field.ShortField.write.Goals as goal
+use Rattle.poly.proofs.fields.ShortField.write.Goals as goal
 
 pub returns : goal.returns
 returns c =

@@ -6,7 +6,7 @@ use borrow.Author.Rules.{rules}
 use Rattle.field.specs.Bytes.{bytes}
 use Rattle.poly.specs.Wides.{number}
 use Rattle.poly.proofs.Octets.{bytes_sixteen}
-use Rattle.poly.proofs.field.WideField.write.Goals as goal
+use Rattle.poly.proofs.fields.WideField.write.Goals as goal
 
 pub returns : goal.returns
 returns c =
