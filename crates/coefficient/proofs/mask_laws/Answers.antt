@@ -10,6 +10,6 @@ returns g c =
     let l = g.met.K.Block.laws in
     record {
       count = count o.add (o.mul o.x) o.one;
-      sum = λ m h. coefficients_zero o.add o.zero (o.mul o.x) l.add-assoc (λ a. l.add-comm o.zero a ∙ l.add_zero a) l.add_self (l.distrib o.x) o.one m;
+      sum = λ m h. coefficients_zero o.add o.zero (o.mul o.x) l.add_assoc (λ a. l.add_comm o.zero a ∙ l.add_zero a) l.add_self (l.distrib o.x) o.one m;
       apart = l.masks;
     }

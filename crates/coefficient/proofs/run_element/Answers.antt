@@ -20,5 +20,5 @@ returns-else-i-t g c =
     let j : ℕ = c.args.i - 2 * c.args.t in
     c.add.ensures
     ∙ ap₂ o.add (c.power-else-i-t.ensures ∙ at.times_add φ c.args.s (2 * j + 1) o.one) (c.power-else-i-t-2.ensures ∙ at.times_add φ c.args.s (2 * j + 2) o.one)
-    ∙ sym (masks.times_linear o.add o.zero φ l.add-assoc (λ a. l.add-comm o.zero a ∙ l.add_zero a) l.add_self (l.distrib o.x) c.args.s (times φ (2 * j + 1) o.one) (times φ (2 * j + 2) o.one))
+    ∙ sym (masks.times_linear o.add o.zero φ l.add_assoc (λ a. l.add_comm o.zero a ∙ l.add_zero a) l.add_self (l.distrib o.x) c.args.s (times φ (2 * j + 1) o.one) (times φ (2 * j + 2) o.one))
     ∙ ap (times φ c.args.s) (sym (at.at_run_high φ o.add o.one o.zero c.args.t c.args.i c.if-i-t.false c.requires.1.0))

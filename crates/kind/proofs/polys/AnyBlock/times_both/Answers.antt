@@ -8,6 +8,6 @@ returns g c =
     let p = g.P.Poly in
     let l = poly_laws p.width p.modulus p.value p.field p.numbers in
     record {
-      first = is_element p.width p.modulus p.value p.field p.numbers c.products.result.0 _ c.products.ensures.first ∙ l.mul-comm c.args.a c.args.self;
-      second = is_element p.width p.modulus p.value p.field p.numbers c.products.result.1 _ c.products.ensures.second ∙ l.mul-comm c.args.c c.args.self;
+      first = is_element p.width p.modulus p.value p.field p.numbers c.products.result.0 _ c.products.ensures.first ∙ l.mul_comm c.args.a c.args.self;
+      second = is_element p.width p.modulus p.value p.field p.numbers c.products.result.1 _ c.products.ensures.second ∙ l.mul_comm c.args.c c.args.self;
     }
