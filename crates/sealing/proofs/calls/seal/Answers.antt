@@ -31,7 +31,7 @@ returns g c =
     let T = c.args.tweak.now in
     let bs = c.args.buffer.now in
     let p = outcome_ok F (length T) (length bs) (F.inverse (m.E (F.block T))) (λ L. (begun F m (F.block T) (length bs / F.size), L)) (λ p. on_blocks F p.0.m (sealed F m p.0) bs)
-    (c.in_ok-terms.terms, c.in_ok-terms.-l) bs c.seal_blocks.new.buffer c.in_ok-terms.ensures.outcome c.seal_blocks.ensures in
+    (c.in_ok-terms.terms, c.in_ok-terms._l) bs c.seal_blocks.new.buffer c.in_ok-terms.ensures.outcome c.seal_blocks.ensures in
     record {
       answers = p.0;
       leaves = p.1;

@@ -11,10 +11,10 @@ loop-i-init c = sym (repeat_none (inv_cycle c.args.self.now.key) c.start-w.resul
 pub loop-i-preserved : goal.loop-i-preserved
 loop-i-preserved c =
     c.inv_cycle-w.ensures ∙ ap (inv_cycle c.args.self.now.key) c.loop-i.invariant
-    ∙ sym (repeat_more (inv_cycle c.args.self.now.key) c.loop-i.-i c.start-w.result)
+    ∙ sym (repeat_more (inv_cycle c.args.self.now.key) c.loop-i._i c.start-w.result)
 
 pub returns : goal.returns
 unfolding decipher
 returns c =
-    let e : c.loop-i.-i ≡ 32 = omega arith in
+    let e : c.loop-i._i ≡ 32 = omega arith in
     c.bytes.ensures ∙ ap bytes_of (c.loop-i.invariant ∙ ap₂ (repeat (inv_cycle c.args.self.now.key)) e c.start-w.ensures)

@@ -5,4 +5,4 @@ use Rattle.xtea.specs.Xtea.{cycle}
 use Rattle.xtea.proofs.Xtea.encrypt_bytes.Given as goal
 
 abbrev pub invariant-loop-i : goal.invariant-loop-i
-invariant-loop-i l = l.w ≡ repeat (cycle l.self.key) l.-i l.initial.w
+invariant-loop-i l = l.w ≡ repeat (cycle l.self.key) l._i l.initial.w
