@@ -54,9 +54,10 @@ fn add_line(text: &mut String, sector: usize, entry: Entry<'_>) -> fmt::Result
     ensures { OnOk result (string_bytes text.new ≡ string_bytes text.old ++ sector_line sector (held entry.entry)) }
 {
     match entry {
-        Entry::Blank => write!(text, "{sector} blank\n"),
-        Entry::Sealed { key, .. } => write!(text, "{sector} key {key}\n"),
+        Entry::Blank => write!(text, "{sector} blank\n")?,
+        Entry::Sealed { key, .. } => write!(text, "{sector} key {key}\n")?,
     }
+    Ok(())
 }
 
 // The line of a refusal.

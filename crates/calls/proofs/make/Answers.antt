@@ -10,7 +10,7 @@ use Rattle.calls.proofs.make.Goals as goal
 
 pub returns-in-Format : goal.returns-in-Format
 returns-in-Format g c =
-    let S = sectors g.Block.Block.ops g.C.Cipher.enc g.C.Cipher.dec in
+    let S = sectors g.C.Block.Block.ops g.C.Cipher.enc g.C.Cipher.dec in
     let ring = ciphers_of c.args.ring.now in
     let image = c.args.image.now in
     let n = vec_items c.in-Format.number in
@@ -21,7 +21,7 @@ returns-in-Format g c =
 
 pub returns-in-Read : goal.returns-in-Read
 returns-in-Read g c =
-    let S = sectors g.Block.Block.ops g.C.Cipher.enc g.C.Cipher.dec in
+    let S = sectors g.C.Block.Block.ops g.C.Cipher.enc g.C.Cipher.dec in
     let ring = ciphers_of c.args.ring.now in
     let image = c.args.image.now in
     let s = c.in-Read.sector in
@@ -35,7 +35,7 @@ returns-in-Read g c =
 
 pub returns-in-Erase : goal.returns-in-Erase
 returns-in-Erase g c =
-    let S = sectors g.Block.Block.ops g.C.Cipher.enc g.C.Cipher.dec in
+    let S = sectors g.C.Block.Block.ops g.C.Cipher.enc g.C.Cipher.dec in
     let ring = ciphers_of c.args.ring.now in
     let image = c.args.image.now in
     let s = c.in-Erase.sector in

@@ -17,7 +17,7 @@ use Rattle.calls.proofs.run.Goals as goal
 
 pub loop-step-preserved : goal.loop-step-preserved
 loop-step-preserved g c =
-    let S = sectors g.Block.Block.ops g.C.Cipher.enc g.C.Cipher.dec in
+    let S = sectors g.C.Block.Block.ops g.C.Cipher.enc g.C.Cipher.dec in
     let ring = ciphers_of c.args.ring.now in
     let xs = c.loop-step.steps in
     let i = c.loop-step.step-index in
@@ -37,8 +37,8 @@ returns g c =
     let dec = g.C.Cipher.dec in
     let back = g.met.C.Cipher.back in
     let forth = g.met.C.Cipher.forth in
-    let S = sectors g.Block.Block.ops enc dec in
-    let law = lawful_sectors g.met.Block.Block.laws enc dec back forth in
+    let S = sectors g.C.Block.Block.ops enc dec in
+    let law = lawful_sectors g.met.C.Block.Block.laws enc dec back forth in
     let ring = ciphers_of c.args.ring.now in
     let image = c.args.image.now in
     let todo = calls_of c.args.steps.now in
@@ -62,6 +62,6 @@ returns g c =
       promise = λ ok. subst (λ (m : List ℕ). KeepsSheet S ring image todo m (answers_of xs)) (sym a) (subst (λ (r : List Answer). KeepsSheet S ring image todo (final_image S ring image todo) r) (sym b) (keeps S law ring ok image todo c.are_bytes.ensures h));
       equal_cards = equal_cards S law ring;
       opens = λ ok x bytes. opened S law ring ok x _ bytes refl;
-      one_dead_tweak = λ k. one_dead_tweak g.met.Block.Block.laws (maps enc dec k) (record { DE = back k; ED = forth k });
-      there_and_back = λ k. there_and_back g.met.Block.Block.laws (maps enc dec k) (record { DE = back k; ED = forth k });
+      one_dead_tweak = λ k. one_dead_tweak g.met.C.Block.Block.laws (maps enc dec k) (record { DE = back k; ED = forth k });
+      there_and_back = λ k. there_and_back g.met.C.Block.Block.laws (maps enc dec k) (record { DE = back k; ED = forth k });
     }

@@ -8,7 +8,7 @@ use Rattle.calls.proofs.run.Given as goal
 
 abbrev pub invariant-loop-step : goal.invariant-loop-step
 invariant-loop-step g l =
-    let S = sectors g.Block.Block.ops g.C.Cipher.enc g.C.Cipher.dec in
+    let S = sectors g.C.Block.Block.ops g.C.Cipher.enc g.C.Cipher.dec in
     let ring = ciphers_of l.ring in
     let left = drop l.step-index l.steps in
     (final_image S ring l.image (calls_of left) ≡ final_image S ring l.initial.image (calls_of l.initial.steps))

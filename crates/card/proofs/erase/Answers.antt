@@ -15,14 +15,14 @@ use Rattle.card.proofs.erase.Goals as goal
 
 pub returns-in_err-count : goal.returns-in_err-count
 returns-in_err-count g c = λ ring.
-    let S = sectors g.Block.Block.ops g.C.Cipher.enc g.C.Cipher.dec in
+    let S = sectors g.C.Block.Block.ops g.C.Cipher.enc g.C.Cipher.dec in
     let image = c.args.image.now in
     let v = image_view S ring image in
     acts_refused S ring image (erase c.args.sector) [] (image_checks S ring v) _ (count_of S.width image) c.in_err-count.field-0.0 c.from_residual.result refl tt c.in_err-count.ensures.outcome c.from_residual.ensures.1
 
 pub returns : goal.returns
 returns g c = λ ring.
-    let S = sectors g.Block.Block.ops g.C.Cipher.enc g.C.Cipher.dec in
+    let S = sectors g.C.Block.Block.ops g.C.Cipher.enc g.C.Cipher.dec in
     let image = c.args.image.now in
     let v = image_view S ring image in
     let s = c.args.sector in

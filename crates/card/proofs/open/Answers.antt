@@ -17,11 +17,11 @@ use Rattle.card.proofs.open.Goals as goal
 
 pub returns-in_err-count : goal.returns-in_err-count
 returns-in_err-count g c =
-    let S = sectors g.Block.Block.ops g.C.Cipher.enc g.C.Cipher.dec in
+    let S = sectors g.C.Block.Block.ops g.C.Cipher.enc g.C.Cipher.dec in
     let ring = ciphers_of c.args.ring.now in
     let image = c.args.image.now in
     let v = image_view S ring image in
-    let law = lawful_sectors g.met.Block.Block.laws g.C.Cipher.enc g.C.Cipher.dec g.met.C.Cipher.back g.met.C.Cipher.forth in
+    let law = lawful_sectors g.met.C.Block.Block.laws g.C.Cipher.enc g.C.Cipher.dec g.met.C.Cipher.back g.met.C.Cipher.forth in
     let f = c.in_err-count.field-0.0 in
     let p = err_from_is_err_and c.from_residual.result c.from_residual.ensures.1 in
     let e = sym (outcome_refused S ring image opening [] (ring_and_image_checks S ring v) _ (count_of S.width image) f refl tt c.in_err-count.ensures.outcome) in
@@ -30,11 +30,11 @@ returns-in_err-count g c =
 
 pub returns-in_err-check_sector : goal.returns-in_err-check_sector
 returns-in_err-check_sector g c =
-    let S = sectors g.Block.Block.ops g.C.Cipher.enc g.C.Cipher.dec in
+    let S = sectors g.C.Block.Block.ops g.C.Cipher.enc g.C.Cipher.dec in
     let ring = ciphers_of c.args.ring.now in
     let image = c.args.image.now in
     let v = image_view S ring image in
-    let law = lawful_sectors g.met.Block.Block.laws g.C.Cipher.enc g.C.Cipher.dec g.met.C.Cipher.back g.met.C.Cipher.forth in
+    let law = lawful_sectors g.met.C.Block.Block.laws g.C.Cipher.enc g.C.Cipher.dec g.met.C.Cipher.back g.met.C.Cipher.forth in
     let s = c.loop-sector.sector in
     let n = c.in_ok-count.count in
     let f = c.in_err-check_sector.field-0.0 in
@@ -52,7 +52,7 @@ returns-in_err-check_sector g c =
 
 pub loop-sector-preserved : goal.loop-sector-preserved
 loop-sector-preserved g c =
-    let S = sectors g.Block.Block.ops g.C.Cipher.enc g.C.Cipher.dec in
+    let S = sectors g.C.Block.Block.ops g.C.Cipher.enc g.C.Cipher.dec in
     let ring = ciphers_of c.args.ring.now in
     let image = c.args.image.now in
     let v = image_view S ring image in
@@ -68,11 +68,11 @@ loop-sector-preserved g c =
 
 pub returns : goal.returns
 returns g c =
-    let S = sectors g.Block.Block.ops g.C.Cipher.enc g.C.Cipher.dec in
+    let S = sectors g.C.Block.Block.ops g.C.Cipher.enc g.C.Cipher.dec in
     let ring = ciphers_of c.args.ring.now in
     let image = c.args.image.now in
     let v = image_view S ring image in
-    let law = lawful_sectors g.met.Block.Block.laws g.C.Cipher.enc g.C.Cipher.dec g.met.C.Cipher.back g.met.C.Cipher.forth in
+    let law = lawful_sectors g.met.C.Block.Block.laws g.C.Cipher.enc g.C.Cipher.dec g.met.C.Cipher.back g.met.C.Cipher.forth in
     let s = c.loop-sector.sector in
     let n = c.in_ok-count.count in
     let o = ruled_ok (ring_and_image_checks S ring v) (count_of S.width image) n (sym c.in_ok-count.ensures.outcome) in

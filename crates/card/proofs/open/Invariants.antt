@@ -9,7 +9,7 @@ use Rattle.card.proofs.open.Given as goal
 
 abbrev pub invariant-loop-sector : goal.invariant-loop-sector
 invariant-loop-sector g l =
-    let S = sectors g.Block.Block.ops g.C.Cipher.enc g.C.Cipher.dec in
+    let S = sectors g.C.Block.Block.ops g.C.Cipher.enc g.C.Cipher.dec in
     let ring = ciphers_of l.ring in
     let v = image_view S ring l.image in
     verdict (sector_checks S ring v l.sector (l.count - l.sector)) ≡ verdict (sector_checks S ring v 0 l.count)

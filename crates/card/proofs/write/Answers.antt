@@ -13,7 +13,7 @@ use Rattle.card.proofs.write.Goals as goal
 
 pub returns-in_err-count : goal.returns-in_err-count
 returns-in_err-count g c =
-    let S = sectors g.Block.Block.ops g.C.Cipher.enc g.C.Cipher.dec in
+    let S = sectors g.C.Block.Block.ops g.C.Cipher.enc g.C.Cipher.dec in
     let ring = ciphers_of c.args.ring.now in
     let image = c.args.image.now in
     let v = image_view S ring image in

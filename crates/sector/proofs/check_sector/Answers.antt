@@ -7,7 +7,7 @@ use Rattle.sector.proofs.check_sector.Goals as goal
 
 pub returns-then-all_zero : goal.returns-then-all_zero
 returns-then-all_zero g c =
-    let S = sectors g.Block.Block.ops g.C.Cipher.enc g.C.Cipher.dec in
+    let S = sectors g.C.Block.Block.ops g.C.Cipher.enc g.C.Cipher.dec in
     let ring = ciphers_of c.args.ring.now in
     let image = c.args.image.now in
     let b = rw c.in-Blank.is at c.in_ok-entry_of.ensures in
@@ -15,7 +15,7 @@ returns-then-all_zero g c =
 
 pub returns-else-all_zero : goal.returns-else-all_zero
 returns-else-all_zero g c =
-    let S = sectors g.Block.Block.ops g.C.Cipher.enc g.C.Cipher.dec in
+    let S = sectors g.C.Block.Block.ops g.C.Cipher.enc g.C.Cipher.dec in
     let ring = ciphers_of c.args.ring.now in
     let image = c.args.image.now in
     let b = rw c.in-Blank.is at c.in_ok-entry_of.ensures in
@@ -23,7 +23,7 @@ returns-else-all_zero g c =
 
 pub returns-in-Sealed : goal.returns-in-Sealed
 returns-in-Sealed g c =
-    let S = sectors g.Block.Block.ops g.C.Cipher.enc g.C.Cipher.dec in
+    let S = sectors g.C.Block.Block.ops g.C.Cipher.enc g.C.Cipher.dec in
     let ring = ciphers_of c.args.ring.now in
     let image = c.args.image.now in
     let s = c.args.sector in

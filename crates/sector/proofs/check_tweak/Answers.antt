@@ -8,9 +8,9 @@ use Rattle.sector.proofs.check_tweak.Goals as goal
 pub returns-in_default : goal.returns-in_default
 returns-in_default g c =
     ap (λ o. refused_if (is_none o)) (sym c.in_default.is)
-    ∙ ap refused_if (dead_by_none g.met.Block.Block.laws g.C.Cipher.enc g.C.Cipher.dec c.args.cipher.now c.args.number.now c.args.sector _ _ _ c.sector_tweak-tweak.ensures c.encrypt.ensures c.inverse.ensures)
+    ∙ ap refused_if (dead_by_none g.met.C.Block.Block.laws g.C.Cipher.enc g.C.Cipher.dec c.args.cipher.now c.args.number.now c.args.sector _ _ _ c.sector_tweak-tweak.ensures c.encrypt.ensures c.inverse.ensures)
 
 pub returns : goal.returns
 returns g c =
     ap (λ o. refused_if (is_none o)) (sym c.in-Some.is)
-    ∙ ap refused_if (dead_by_none g.met.Block.Block.laws g.C.Cipher.enc g.C.Cipher.dec c.args.cipher.now c.args.number.now c.args.sector _ _ _ c.sector_tweak-tweak.ensures c.encrypt.ensures c.inverse.ensures)
+    ∙ ap refused_if (dead_by_none g.met.C.Block.Block.laws g.C.Cipher.enc g.C.Cipher.dec c.args.cipher.now c.args.number.now c.args.sector _ _ _ c.sector_tweak-tweak.ensures c.encrypt.ensures c.inverse.ensures)

@@ -7,8 +7,8 @@ use Rattle.sector.proofs.seal_text.Goals as goal
 
 pub returns : goal.returns
 returns g c =
-    let F = g.Block.Block.ops in
-    let law = g.met.Block.Block.laws in
+    let F = g.C.Block.Block.ops in
+    let law = g.met.C.Block.Block.laws in
     let enc = g.C.Cipher.enc in
     let dec = g.C.Cipher.dec in
     let back = g.met.C.Cipher.back in

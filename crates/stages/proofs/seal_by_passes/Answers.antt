@@ -8,8 +8,8 @@ use Rattle.stages.proofs.seal_by_passes.Goals as goal
 
 pub returns : goal.returns
 returns g c =
-    let F = g.Block.Block.ops in
-    let law = g.met.Block.Block.laws in
+    let F = g.C.Block.Block.ops in
+    let law = g.met.C.Block.Block.laws in
     let k = maps g.C.Cipher.enc g.C.Cipher.dec c.args.cipher.now in
     let bs = c.args.buffer.now in
     let b₁ = c.hash.new.buffer in

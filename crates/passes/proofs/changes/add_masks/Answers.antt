@@ -8,8 +8,8 @@ use Rattle.passes.proofs.changes.add_masks.Goals as goal
 
 pub returns-then-m-le1 : goal.returns-then-m-le1
 returns-then-m-le1 g c =
-    let F = g.Block.Block.ops in
-    let law = g.met.Block.Block.laws in
+    let F = g.C.Block.Block.ops in
+    let law = g.met.C.Block.Block.laws in
     let t = c.args.terms.now in
     let v = value F (g.C.Cipher.enc c.args.cipher.now) c.args.end (blocks F t.m c.args.buffer.now) in
     let few = few_mask law t c.args.single v (omega arith) in
@@ -17,8 +17,8 @@ returns-then-m-le1 g c =
 
 pub returns-then-m-eq2 : goal.returns-then-m-eq2
 returns-then-m-eq2 g c =
-    let F = g.Block.Block.ops in
-    let law = g.met.Block.Block.laws in
+    let F = g.C.Block.Block.ops in
+    let law = g.met.C.Block.Block.laws in
     let E = g.C.Cipher.enc c.args.cipher.now in
     let t = c.args.terms.now in
     let old = c.args.buffer.now in
@@ -30,8 +30,8 @@ returns-then-m-eq2 g c =
 
 pub returns : goal.returns
 returns g c =
-    let F = g.Block.Block.ops in
-    let law = g.met.Block.Block.laws in
+    let F = g.C.Block.Block.ops in
+    let law = g.met.C.Block.Block.laws in
     let E = g.C.Cipher.enc c.args.cipher.now in
     let t = c.args.terms.now in
     let old = c.args.buffer.now in

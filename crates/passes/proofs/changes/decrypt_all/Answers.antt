@@ -6,5 +6,5 @@ use Rattle.passes.proofs.changes.decrypt_all.Goals as goal
 
 pub returns : goal.returns
 returns g c =
-    let o = g.Block.Block.ops in
+    let o = g.C.Block.Block.ops in
     c.run_pass.ensures.value ∙ ap (flat o) (map_over _ _ (blocks o c.args.m c.args.buffer.now))

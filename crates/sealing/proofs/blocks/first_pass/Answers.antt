@@ -8,8 +8,8 @@ use Rattle.sealing.proofs.blocks.first_pass.Goals as goal
 
 pub returns : goal.returns
 returns g c =
-    let F = g.Block.Block.ops in
+    let F = g.C.Block.Block.ops in
     let k = maps g.C.Cipher.enc g.C.Cipher.dec c.args.cipher.now in
     let t = c.args.terms.now in
     let old = c.args.buffer.now in
-    c.multiply_by_powers.ensures ∙ ap (flat F) (first_agrees g.met.Block.Block.laws k t (blocks F t.m old) (blocks_length F t.m old))
+    c.multiply_by_powers.ensures ∙ ap (flat F) (first_agrees g.met.C.Block.Block.laws k t (blocks F t.m old) (blocks_length F t.m old))

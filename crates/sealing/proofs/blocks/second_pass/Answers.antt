@@ -11,10 +11,10 @@ use Rattle.sealing.proofs.blocks.second_pass.Goals as goal
 
 pub returns : goal.returns
 returns g c =
-    let F = g.Block.Block.ops in
+    let F = g.C.Block.Block.ops in
     let k = maps g.C.Cipher.enc g.C.Cipher.dec c.args.cipher.now in
     let t = c.args.terms.now in
     let old = c.args.buffer.now in
-    then g.met.Block.Block.laws t.m (masked F k.E (mask F t t.en) t.en) (map k.E) old c.add_masks.new.buffer c.encrypt_all.new.buffer
+    then g.met.C.Block.Block.laws t.m (masked F k.E (mask F t t.en) t.en) (map k.E) old c.add_masks.new.buffer c.encrypt_all.new.buffer
     (λ ks. length_each _ 0 ks) c.add_masks.ensures c.encrypt_all.ensures
-    ∙ ap (flat F) (second_agrees g.met.Block.Block.laws k t (blocks F t.m old) (blocks_length F t.m old))
+    ∙ ap (flat F) (second_agrees g.met.C.Block.Block.laws k t (blocks F t.m old) (blocks_length F t.m old))

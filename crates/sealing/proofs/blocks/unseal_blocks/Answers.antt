@@ -13,12 +13,12 @@ use Rattle.sealing.proofs.blocks.unseal_blocks.Goals as goal
 
 pub returns : goal.returns
 returns g c =
-    let F = g.Block.Block.ops in
+    let F = g.C.Block.Block.ops in
     let k = maps g.C.Cipher.enc g.C.Cipher.dec c.args.cipher.now in
     let E = k.E in
     let D = k.D in
     let t = c.args.terms.now in
-    let law = g.met.Block.Block.laws in
+    let law = g.met.C.Block.Block.laws in
     let l = c.args.l in
     let single = F.mul F.x t.een in
     let end = by_count t.m t.een t.een t.en in

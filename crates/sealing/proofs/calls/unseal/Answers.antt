@@ -9,7 +9,7 @@ use Rattle.sealing.proofs.calls.unseal.Goals as goal
 pub returns-in_err-terms : goal.returns-in_err-terms
 unfolding Promised
 returns-in_err-terms g c =
-    let F = g.Block.Block.ops in
+    let F = g.C.Block.Block.ops in
     let k = c.args.cipher.now in
     let m = maps g.C.Cipher.enc g.C.Cipher.dec k in
     let T = c.args.tweak.now in
@@ -19,13 +19,13 @@ returns-in_err-terms g c =
     record {
       answers = p.0;
       leaves = p.1;
-      promises = promises g.met.Block.Block.laws m (record { DE = g.met.C.Cipher.back k; ED = g.met.C.Cipher.forth k });
+      promises = promises g.met.C.Block.Block.laws m (record { DE = g.met.C.Cipher.back k; ED = g.met.C.Cipher.forth k });
     }
 
 pub returns : goal.returns
 unfolding Promised
 returns g c =
-    let F = g.Block.Block.ops in
+    let F = g.C.Block.Block.ops in
     let k = c.args.cipher.now in
     let m = maps g.C.Cipher.enc g.C.Cipher.dec k in
     let T = c.args.tweak.now in
@@ -35,5 +35,5 @@ returns g c =
     record {
       answers = p.0;
       leaves = p.1;
-      promises = promises g.met.Block.Block.laws m (record { DE = g.met.C.Cipher.back k; ED = g.met.C.Cipher.forth k });
+      promises = promises g.met.C.Block.Block.laws m (record { DE = g.met.C.Cipher.back k; ED = g.met.C.Cipher.forth k });
     }
