@@ -46,8 +46,8 @@ pub fn third_pass<C: Cipher>(cipher: &C, terms: &Terms<C::Block>, buffer: &mut [
 
 // The sealed blocks from the text.
 pub(crate) fn seal_blocks<C: Cipher>(cipher: &C, terms: &Terms<C::Block>, buffer: &mut [u8])
-    requires { length buffer.old ≡ terms.now.m * C.Block.Block.ops.size }
-    ensures { buffer.new ≡ on_blocks C.Block.Block.ops terms.now.m (sealed C.Block.Block.ops (maps enc dec cipher.now) terms.now) buffer.old }
+    requires { length buffer.old ≡ terms.now.m * C.Block.ops.size }
+    ensures { buffer.new ≡ on_blocks C.Block.ops terms.now.m (sealed C.Block.ops (maps C.enc C.dec cipher.now) terms.now) buffer.old }
 {
     first_pass(cipher, terms, buffer);
     second_pass(cipher, terms, buffer);
@@ -61,8 +61,8 @@ pub(crate) fn unseal_blocks<C: Cipher>(
     l: C::Block,
     buffer: &mut [u8],
 )
-    requires { length buffer.old ≡ terms.now.m * C.Block.Block.ops.size }
-    ensures { buffer.new ≡ on_blocks C.Block.Block.ops terms.now.m (unsealed C.Block.Block.ops (maps enc dec cipher.now) terms.now l) buffer.old }
+    requires { length buffer.old ≡ terms.now.m * C.Block.ops.size }
+    ensures { buffer.new ≡ on_blocks C.Block.ops terms.now.m (unsealed C.Block.ops (maps C.enc C.dec cipher.now) terms.now l) buffer.old }
 {
     multiply_by_powers(l, terms.m, buffer);
     let single = terms.een.double();
