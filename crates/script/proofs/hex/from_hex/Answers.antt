@@ -6,7 +6,7 @@ use Rattle.script.proofs.hex.from_hex.Goals as goal
 pub loop-i-preserved : goal.loop-i-preserved
 loop-i-preserved c =
     let xs : List ℕ = vec_items c.loop-i.bytes in
-    let more = c.in-ok-push.ensures.items in (
+    let more = c.in_ok-push.ensures.items in (
       search rules,
       below_more _ _
           (λ k h.
