@@ -1,5 +1,5 @@
 -- One more byte at the end leaves those before it.
-use Rattle.std.proofs.Common.{◌≡◌, ℕ, ◌<◌, List, [], ◌∷◌, length, get_or, Some, vec_items, sym, ap, ◌∙◌, arith, rules, below_more}
+use Rattle.std.proofs.Common.{ℕ, ◌<◌, List, [], ◌∷◌, length, get_or, Some, vec_items, sym, ap, ◌∙◌, arith, rules, below_more}
 use Rattle.std.proofs.lemmas.List.{get_or_append_left, get_or_push}
 use Rattle.script.proofs.hex.from_hex.Goals as goal
 
