@@ -126,6 +126,64 @@ fn target_of(heap: Global, word: Option<&str>, line: usize) -> Result<Target, Pr
     }
 }
 
+fn format_of(
+    heap: Global,
+    first: Option<&str>,
+    second: Option<&str>,
+    line: usize,
+) -> Result<Command, Problem> {
+    Ok(Command::Format {
+        sectors: sectors_of(first, line)?,
+        number: bytes_of(heap, second, line)?,
+    })
+}
+
+fn write_of(
+    heap: Global,
+    first: Option<&str>,
+    second: Option<&str>,
+    third: Option<&str>,
+    line: usize,
+) -> Result<Command, Problem> {
+    Ok(Command::Write {
+        sector: number_of(first, line)?,
+        key: number_of(second, line)?,
+        text: source_of(heap, third, line)?,
+    })
+}
+
+fn read_of(
+    heap: Global,
+    first: Option<&str>,
+    second: Option<&str>,
+    line: usize,
+) -> Result<Command, Problem> {
+    Ok(Command::Read {
+        sector: number_of(first, line)?,
+        to: target_of(heap, second, line)?,
+    })
+}
+
+fn rekey_of(first: Option<&str>, second: Option<&str>, line: usize) -> Result<Command, Problem> {
+    Ok(Command::Rekey {
+        sector: number_of(first, line)?,
+        key: number_of(second, line)?,
+    })
+}
+
+fn copy_of(first: Option<&str>, second: Option<&str>, line: usize) -> Result<Command, Problem> {
+    Ok(Command::Copy {
+        from: number_of(first, line)?,
+        to: number_of(second, line)?,
+    })
+}
+
+fn erase_of(first: Option<&str>, line: usize) -> Result<Command, Problem> {
+    Ok(Command::Erase {
+        sector: number_of(first, line)?,
+    })
+}
+
 fn parse_command(heap: Global, text: &str, line: usize) -> Result<Command, Problem> {
     let mut words = text.split_whitespace();
     let call = words.next();
@@ -134,49 +192,13 @@ fn parse_command(heap: Global, text: &str, line: usize) -> Result<Command, Probl
     let third = words.next();
     let fourth = words.next();
     let (command, most) = match call {
-        Some("format") => (
-            Command::Format {
-                sectors: sectors_of(first, line)?,
-                number: bytes_of(heap, second, line)?,
-            },
-            2,
-        ),
+        Some("format") => (format_of(heap, first, second, line)?, 2),
         Some("open") => (Command::Open, 0),
-        Some("write") => (
-            Command::Write {
-                sector: number_of(first, line)?,
-                key: number_of(second, line)?,
-                text: source_of(heap, third, line)?,
-            },
-            3,
-        ),
-        Some("read") => (
-            Command::Read {
-                sector: number_of(first, line)?,
-                to: target_of(heap, second, line)?,
-            },
-            2,
-        ),
-        Some("rekey") => (
-            Command::Rekey {
-                sector: number_of(first, line)?,
-                key: number_of(second, line)?,
-            },
-            2,
-        ),
-        Some("copy") => (
-            Command::Copy {
-                from: number_of(first, line)?,
-                to: number_of(second, line)?,
-            },
-            2,
-        ),
-        Some("erase") => (
-            Command::Erase {
-                sector: number_of(first, line)?,
-            },
-            1,
-        ),
+        Some("write") => (write_of(heap, first, second, third, line)?, 3),
+        Some("read") => (read_of(heap, first, second, line)?, 2),
+        Some("rekey") => (rekey_of(first, second, line)?, 2),
+        Some("copy") => (copy_of(first, second, line)?, 2),
+        Some("erase") => (erase_of(first, line)?, 1),
         _ => return Err(Problem::Line {
             line,
             wrong: Wrong::UnknownCall,

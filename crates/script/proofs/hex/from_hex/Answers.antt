@@ -1,12 +1,12 @@
 -- One more byte at the end leaves those before it.
-use Rattle.std.proofs.Common.{◌≡◌, ℕ, ◌<◌, List, [], ◌∷◌, length, get_or, Some, vec_items, sym, ap, ◌∙◌, arith, rules, below_more}
+use Rattle.std.proofs.Common.{ℕ, ◌<◌, List, [], ◌∷◌, length, get_or, Some, vec_items, sym, ap, ◌∙◌, arith, rules, below_more}
 use Rattle.std.proofs.lemmas.List.{get_or_append_left, get_or_push}
 use Rattle.script.proofs.hex.from_hex.Goals as goal
 
 pub loop-i-preserved : goal.loop-i-preserved
 loop-i-preserved c =
     let xs : List ℕ = vec_items c.loop-i.bytes in
-    let more = c.in-ok-push.ensures.items in (
+    let more = c.in_ok-push.ensures.items in (
       search rules,
       below_more _ _
           (λ k h.
