@@ -2,7 +2,7 @@
 // The state holds four columns of four rows, one column after the other.
 #![tactic(auto)]
 
-mod field;
+mod factors;
 mod sbox;
 mod steps;
 

@@ -2,7 +2,7 @@
 ghost use Rattle.std.specs.Prelude.{◌≡◌, [], ◌∷◌};
 ghost use Rattle.aes_steps.specs.Steps.{sub_bytes, inv_sub_bytes, shift_rows, inv_shift_rows, mix, inv_mix, mix_columns, inv_mix_columns};
 
-use crate::field::{
+use crate::factors::{
     times_eleven, times_fourteen, times_nine, times_thirteen, times_three, times_two,
 };
 use crate::sbox::{inv_s_box, s_box};

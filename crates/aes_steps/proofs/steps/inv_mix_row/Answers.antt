@@ -4,4 +4,4 @@ use Rattle.aes_steps.proofs.steps.inv_mix_row.Goals as goal
 
 pub returns : goal.returns
 unfolding inv_mix
-returns c = simp (c.times-fourteen.ensures, c.times-eleven.ensures, c.times-thirteen.ensures, c.times-nine.ensures)
+returns c = simp (c.times_fourteen.ensures, c.times_eleven.ensures, c.times_thirteen.ensures, c.times_nine.ensures)

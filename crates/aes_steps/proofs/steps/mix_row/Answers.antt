@@ -5,4 +5,4 @@ use Rattle.aes_steps.proofs.steps.mix_row.Goals as goal
 
 pub returns : goal.returns
 unfolding mix
-returns c = simp (c.times-two.ensures, c.times-three.ensures, mul_two)
+returns c = simp (c.times_two.ensures, c.times_three.ensures, mul_two)
