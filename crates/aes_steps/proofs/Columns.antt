@@ -1,6 +1,6 @@
 -- The matrix of MixColumns and that of InvMixColumns undo one another on every column of bytes.
 -- Both are linear, so it suffices to look at columns with one byte that is not zero.
-use Rattle.std.proofs.Common.{◌≡◌, ℕ, ◌^◌, ◌<◌, Bool, T, eqb, sym, refl, ap, ◌∙◌, arith, lit<, eqb→eq}
+use Rattle.std.proofs.Common.{◌≡◌, ℕ, ◌<◌, Bool, T, eqb, ap, ◌∙◌, lit<, eqb→eq}
 use lib.Bits.{bit_xor, xor_lt, xor_zero_r}
 use Rattle.std.specs.List.{range_with_len}
 use Rattle.field.specs.Field.{times_x, combine, powers}

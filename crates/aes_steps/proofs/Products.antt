@@ -1,7 +1,7 @@
 -- Products by the constants of MixColumns and its inverse, as sums of doublings.
-use Rattle.std.proofs.Common.{◌≡◌, ℕ, ◌*◌, ◌/◌, ◌%◌, ◌^◌, ◌<◌, refl, one-mul, zero-mul, arith}
+use Rattle.std.proofs.Common.{◌≡◌, ℕ, one-mul, zero-mul}
 use lib.Bits.{bit_xor, xor_zero_r}
-use Rattle.field.specs.Field.{times_x, combine, powers}
+use Rattle.field.specs.Field.{combine, powers}
 use Rattle.field.specs.Field.{mul as product}
 use Rattle.aes_steps.specs.Field.{xtime, mul}
 

@@ -1,11 +1,11 @@
 -- The S-box and its inverse keep their rules and undo one another: computed over all bytes.
-use Rattle.std.proofs.Common.{◌≡◌, ℕ, zero, suc, ◌<◌, Bool, T, eqb, ltb, ◌⊎◌, List, length, get_or, sym, refl, ap, ◌∙◌, inl, inr, arith, eqb→eq, ltb→lt}
+use Rattle.std.proofs.Common.{◌≡◌, ℕ, zero, suc, ◌<◌, Bool, T, eqb, ltb, sym, refl, ap, ◌∙◌, inl, inr, arith, eqb→eq, ltb→lt}
 use Rattle.std.specs.List.{range_with_len}
 use Rattle.field.specs.Field.{times_x, combine, powers, square, norm}
 use Rattle.field.specs.Field.{mul as product, inverse as power}
 use Rattle.aes_steps.specs.Field.{mul, inverse}
 use Rattle.aes_steps.specs.Sbox.{affine, inv_affine, s_box, inv_s_box, Inverse, Substitutes}
-use Rattle.aes_steps.proofs.Table.{both, both_left, both_right, every, at, upto}
+use Rattle.aes_steps.proofs.Table.{both, both_left, both_right, every, upto}
 
 -- what is computed of the inverse of each byte
 inverted : ℕ → Bool

@@ -1,5 +1,5 @@
 -- Each step keeps states of bytes and is undone by its inverse, and the other way round.
-use Rattle.std.proofs.Common.{◌≡◌, ℕ, ◌+◌, ◌-◌, ◌*◌, ◌/◌, ◌%◌, ◌<◌, ◌≤◌, List, length, get_or, sym, refl, ap, ◌∙◌, arith}
+use Rattle.std.proofs.Common.{◌≡◌, ℕ, ◌+◌, ◌-◌, ◌*◌, ◌%◌, ◌<◌, List, length, refl, ap, ◌∙◌, arith}
 use Rattle.aes_steps.specs.Sbox.{s_box, inv_s_box}
 use Rattle.aes_steps.specs.Steps.{at, state, sub_bytes, inv_sub_bytes, shift_rows, inv_shift_rows, mix, inv_mix, in_column, mix_columns, inv_mix_columns}
 use Rattle.aes_steps.proofs.Sboxes.{s_box_undone, inv_s_box_undone, s_box_lt, inv_s_box_lt}

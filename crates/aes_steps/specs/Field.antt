@@ -1,5 +1,5 @@
 -- The field of FIPS 197: a byte's bit i is the coefficient of x^i, and products are reduced by x^8 + x^4 + x^3 + x + 1.
--- The sum is bitXor.
+-- The sum is bit_xor.
 use Rattle.std.specs.Prelude.{ℕ}
 use Rattle.field.specs.Field as field
 

@@ -1,5 +1,5 @@
 -- What is left to show of `aes_steps::sbox::inv_s_box`.
-use Rattle.std.proofs.Common.{◌≡◌, get_or, arith}
+use Rattle.std.proofs.Common.{get_or, arith}
 use Rattle.aes_steps.proofs.Tables.{inv_s_boxes, inv_s_boxes_at}
 use Rattle.aes_steps.proofs.Sboxes.{inv_substitutes}
 use Rattle.aes_steps.proofs.sbox.inv_s_box.Goals as goal

@@ -1,5 +1,5 @@
 -- What is left to show of `aes_steps::sbox::s_box`.
-use Rattle.std.proofs.Common.{◌≡◌, get_or, arith}
+use Rattle.std.proofs.Common.{get_or, arith}
 use Rattle.aes_steps.proofs.Tables.{s_boxes, s_boxes_at}
 use Rattle.aes_steps.proofs.Sboxes.{substitutes}
 use Rattle.aes_steps.proofs.sbox.s_box.Goals as goal
