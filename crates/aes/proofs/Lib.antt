@@ -1,3 +1,3 @@
--- Lemmas: the key expansion word by word, the rounds one by one, and that the two ciphers undo one another.
+-- Lemmas: the key expansion word by word, and the rounds one by one.
 pub mod KeyWords
 pub mod RoundSteps

@@ -1,3 +1,4 @@
+-- What the laws of a cipher rest on: the wide kind's laws, and its blocks as states of AES.
 use Rattle.std.specs.Prelude.{◌≡◌, ℕ, List, length}
 use Rattle.kind.specs.Laws.{Laws, Bytes}
 use Rattle.kind.specs.Polynomials.{wide_ops}

@@ -13,7 +13,7 @@ use aes_steps::{
     inv_mix_columns, inv_shift_rows, inv_sub_bytes, mix_columns, shift_rows, sub_bytes,
 };
 use cipher::Cipher;
-use kind::{Block, Block as _};
+use kind::Block;
 use poly::Wide;
 
 // AES-128 on the wide kind: E is the cipher of FIPS 197 on the block's bytes, and D the inverse cipher.

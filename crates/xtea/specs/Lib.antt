@@ -1,4 +1,4 @@
--- XTEA by its published rule.
+-- XTEA by its published rule, and that its two maps undo one another.
 pub mod Repeat
 pub mod Xtea
 pub mod Blocks

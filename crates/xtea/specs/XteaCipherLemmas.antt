@@ -1,3 +1,4 @@
+-- What the laws of a cipher rest on: the short kind's laws.
 use Rattle.kind.specs.Laws.{Laws}
 use Rattle.kind.specs.Polynomials.{short_ops}
 use Rattle.kind.specs.PolynomialsLemmas.{poly_laws}

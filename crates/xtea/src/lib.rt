@@ -11,7 +11,7 @@ ghost use Rattle.xtea.specs.Undone.{encipher_bytes, encipher_undone, decipher_by
 ghost use Rattle.xtea.specs.XteaCipherLemmas.{short_laws};
 
 use cipher::Cipher;
-use kind::{Block, Block as _};
+use kind::Block;
 use poly::Short;
 
 // What s grows by in each cycle.
