@@ -1,7 +1,7 @@
 -- The cipher and the inverse cipher undo one another on 16 bytes, for every expanded key of bytes.
-use Rattle.std.specs.Prelude.{◌≡◌, ℕ, zero, suc, ◌+◌, ◌*◌, ◌<◌, List, length, bit_xor, slice_index}
+use Rattle.std.specs.Prelude.{◌≡◌, ℕ, zero, suc, ◌+◌, ◌*◌, ◌<◌, List, bit_xor, slice_index}
 use Rattle.std.proofs.Math.Path.{refl, ap}
-use Rattle.std.proofs.Common.{sym, ◌∙◌}
+use Rattle.std.proofs.Common.{◌∙◌}
 use Rattle.std.specs.Int.Bits.{xor_lt, xor_assoc, xor_self, xor_zero_r}
 use Rattle.aes_steps.specs.Steps.{at, state, sub_bytes, inv_sub_bytes, shift_rows, inv_shift_rows, mix_columns, inv_mix_columns}
 use Rattle.aes_steps.proofs.States.{Block, at_state, state_is, state_block}

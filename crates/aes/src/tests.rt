@@ -88,6 +88,7 @@ fn published_blocks(rt: HostRuntime) {
 fn published_key_expansion(rt: HostRuntime) {
     let c = Aes::new(&VECTORS[0].key);
     for i in 0..176usize {
-        assert_eq!(rt; c.keys[i], EXPANDED[i]);
+        let byte = c.keys[i];
+        assert_eq!(rt; byte, EXPANDED[i]);
     }
 }

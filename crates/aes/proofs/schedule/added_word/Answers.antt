@@ -1,5 +1,5 @@
 -- What is left to show of `aes::schedule::added_word`.
-use Rattle.std.proofs.Common.{◌≡◌, ◌/◌, sym, ap, ◌∙◌}
+use Rattle.std.proofs.Common.{◌/◌, sym, ap, ◌∙◌}
 use Rattle.aes.specs.Keys.{rot_word, sub_word, xor_words, rcon}
 use Rattle.aes.proofs.KeyWords.{temp_other, temp_fourth}
 use Rattle.aes.proofs.schedule.added_word.Goals as goal

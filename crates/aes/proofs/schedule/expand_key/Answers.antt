@@ -1,5 +1,5 @@
 -- What is left to show of `aes::schedule::expand_key`.
-use Rattle.std.proofs.Common.{◌≡◌, ℕ, ◌+◌, ◌*◌, List, [], ◌∷◌, ◌++◌, length, get_or, take, sym, ap, ◌∙◌, arith, length-set}
+use Rattle.std.proofs.Common.{◌≡◌, ℕ, ◌+◌, ◌*◌, List, [], ◌∷◌, ◌++◌, get_or, take, sym, ap, ◌∙◌, arith, length-set}
 use Rattle.std.proofs.lemmas.List.{take_more_set, take_more, take_all}
 use Rattle.aes.specs.Keys.{expanded, key_expansion}
 use Rattle.aes.proofs.KeyWords.{expanded_none, expanded_more, take_four, word_is}

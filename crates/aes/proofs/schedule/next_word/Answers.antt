@@ -1,5 +1,5 @@
 -- What is left to show of `aes::schedule::next_word`.
-use Rattle.std.proofs.Common.{◌≡◌, ◌∙◌, ap₂}
+use Rattle.std.proofs.Common.{◌∙◌, ap₂}
 use Rattle.aes.specs.Keys.{xor_words, next_word}
 use Rattle.aes.proofs.schedule.next_word.Goals as goal
 
