@@ -2,7 +2,7 @@
 use Rattle.std.specs.Prelude.{◌≡◌, ℕ, ◌+◌, ◌*◌, ◌/◌, ◌%◌, ◌^◌, ◌<◌, List, [], ◌∷◌, ◌++◌, length, bit_xor, slice_index_or, refl}
 use Rattle.std.proofs.Common.{sym, ap₂, ◌∙◌, inl, inr, arith}
 use Rattle.std.proofs.Math.Path.{ap}
-use Rattle.std.specs.List.{AllByRecursion as All}
+use Rattle.std.specs.List.{AllByRecursion}
 use Rattle.std.proofs.lemmas.Nat.{shr-shr, xor_lt}
 use Rattle.std.proofs.lemmas.List.FromFn.{fill_by_all}
 use Rattle.std.proofs.ByRecursion.{All-get_or}
@@ -124,7 +124,7 @@ module _ (k : List ℕ) where
       (bytes_of_word (b 4) (b 5) (b 6) (b 7) (h 4) (h 5) (h 6) (h 7))
       ∙ sym (fill_by_all b bs 8 0 l (λ i q. refl))
 
-  all_bytes : (w : State) → All (λ y. y < 256) (bytes_of w)
+  all_bytes : (w : State) → AllByRecursion (λ y. y < 256) (bytes_of w)
   all_bytes w = (omega arith, (omega arith, (omega arith, (omega arith, (omega arith, (omega arith, (omega arith, (omega arith, tt))))))))
 
   bytes_bytes : (w : State) → Bytes (bytes_of w)
