@@ -1,6 +1,6 @@
 -- What the laws of a kind give of sums.
-use Rattle.std.specs.Prelude.{◌≡◌, List, [], ◌∷◌, map, refl}
-use Rattle.std.proofs.Common.{sym, ap, ap₂, ◌∙◌}
+use Rattle.std.specs.Prelude.{◌≡◌}
+use Rattle.std.proofs.Common.{ap, ◌∙◌}
 use Rattle.kind.specs.Laws.{Ops, Laws}
 
 module _ {K : Type 0} (o : Ops K) (laws : Laws o) where

@@ -6,7 +6,6 @@ use Rattle.kind.specs.Laws.{Ops, mask_coefficients, most_blocks}
 use Rattle.std.proofs.lemmas.List.{get_or-map}
 use Rattle.field.specs.Degree.{Degree}
 use Rattle.field.specs.Mask.{written}
-use Rattle.field.specs.Field.{mul}
 use Rattle.field.proofs.Laws.{count}
 use Rattle.arithmetic.specs.Facts.{Modulus, Numbers}
 use Rattle.kind.specs.Polynomials.{poly_ops}

@@ -1,5 +1,5 @@
 -- Leading zeros give the degree, and a bound of a number is a bound of its degree.
-use Rattle.std.proofs.Common.{◌≡◌, ℕ, suc, ◌+◌, ◌-◌, ◌^◌, ◌<◌, ◌≤◌, ap, subst, arith, pow_mono}
+use Rattle.std.proofs.Common.{◌≡◌, ℕ, suc, ◌+◌, ◌^◌, ◌<◌, ◌≤◌, ap, subst, arith, pow_mono}
 use native.Mathlib.Decide.{dec_lt}
 use lib.Count.{count_leading_zeros, leading_top, leading_of_zero}
 use Rattle.field.specs.Degree.{Degree}

@@ -1,6 +1,6 @@
 -- Every element but zero has an inverse, from two computed facts of the modulus: n squarings bring x back to x,
 -- and a linear map takes v^2 + v back to v, up to the coefficient of one.
-use Rattle.std.proofs.Common.{◌≡◌, ℕ, zero, suc, ◌+◌, ◌-◌, ◌%◌, ◌^◌, ◌<◌, ◌≢◌, List, map, sym, refl, ap, ◌∙◌, ap₂, mod-lt, mod-eq_of_lt, arith, pow_pos}
+use Rattle.std.proofs.Common.{◌≡◌, ℕ, zero, suc, ◌-◌, ◌%◌, ◌^◌, ◌<◌, ◌≢◌, List, map, sym, refl, ap, ◌∙◌, ap₂, mod-lt, mod-eq_of_lt, arith, pow_pos}
 use lib.Pow.{pow-lt}
 use lib.Bits.{bit_xor, xor_mod, xor_assoc, xor_self}
 use Rattle.field.specs.Field.{times_x, combine, powers, mul, square, norm, inverse}

@@ -1,5 +1,5 @@
 -- Linear maps over the numbers' bits: a linear map is decided by its values at the powers of two.
-use Rattle.std.proofs.Common.{◌≡◌, ℕ, zero, suc, ◌+◌, ◌-◌, ◌*◌, ◌/◌, ◌%◌, ◌<◌, List, [], ◌∷◌, map, sym, refl, ap, ◌∙◌, ap₂, add-zero, mod-lt, one-mul, zero-mul, arith, lit<}
+use Rattle.std.proofs.Common.{◌≡◌, ℕ, zero, suc, ◌*◌, ◌/◌, ◌%◌, ◌<◌, List, [], ◌∷◌, map, sym, refl, ap, ◌∙◌, ap₂, add-zero, mod-lt, one-mul, zero-mul, arith, lit<}
 use lib.Bits.{bit_xor, xor_mod, xor_shr, xor_block, xor_assoc, xor_comm, xor_self, xor_zero_r}
 use Rattle.field.specs.Field.{combine}
 

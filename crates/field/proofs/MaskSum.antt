@@ -1,6 +1,6 @@
 -- The mask coefficients add to zero, over any elements whose sum is commutative and associative, with each element its own
 -- negative, and with an additive product by x.
-use Rattle.std.proofs.Common.{◌≡◌, ℕ, zero, suc, ◌+◌, ◌-◌, ◌*◌, ◌/◌, ◌%◌, List, [], ◌∷◌, ◌++◌, map, sym, refl, ap, ◌∙◌, arith}
+use Rattle.std.proofs.Common.{◌≡◌, ℕ, zero, suc, ◌-◌, ◌*◌, ◌/◌, ◌%◌, List, [], ◌∷◌, ◌++◌, map, sym, refl, ap, ◌∙◌, arith}
 use Rattle.field.specs.Mask.{times, singles, pairs, run, by_rest, coefficients, total}
 
 module _ {E : Type 0} (add : E → E → E) (zer : E) (by_x : E → E)

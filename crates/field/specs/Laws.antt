@@ -1,6 +1,6 @@
 -- What holds of the product modulo x^n + f: the laws of a ring for every modulus, those of a field for an irreducible one,
 -- and those of the mask coefficients.
-use Rattle.std.specs.Prelude.{◌≡◌, ℕ, ◌+◌, ◌^◌, ◌<◌, ◌≤◌, ◌≢◌, length, bit_xor, slice_index}
+use Rattle.std.specs.Prelude.{◌≡◌, ℕ, ◌^◌, ◌<◌, ◌≤◌, ◌≢◌, length, bit_xor, slice_index}
 use Rattle.field.specs.Degree.{Degree}
 use Rattle.field.specs.Field.{times_x, mul, inverse}
 use Rattle.field.specs.Mask.{coefficients, total, Apart, written, most_blocks}

@@ -1,5 +1,5 @@
 -- The step of a loop that walks over a list in place with a state.
-use Rattle.std.proofs.Common.{◌≡◌, ℕ, suc, ◌+◌, ◌-◌, ◌<◌, ◌≤◌, List, [], ◌∷◌, ◌++◌, length, get_or, take, drop, set, sym, refl, ap, ◌∙◌, ap₂, subst₂, add-zero, arith}
+use Rattle.std.proofs.Common.{◌≡◌, ℕ, suc, ◌+◌, ◌<◌, ◌≤◌, List, [], ◌∷◌, ◌++◌, length, get_or, take, drop, set, sym, refl, ap, ◌∙◌, ap₂, subst₂, add-zero, arith}
 use Rattle.std.proofs.lemmas.List.{drop-drop, drop_more, take_more, set_at, get_or_at, length-take-le, take_all, append-nil, drop_all, append_assoc, get_or-drop}
 use Rattle.kind.specs.Blocks.{over, after}
 

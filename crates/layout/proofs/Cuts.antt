@@ -1,8 +1,8 @@
 -- Parts of an image as the code cuts them out, and what its writes leave.
-use Rattle.std.proofs.Common.{◌≡◌, ℕ, zero, suc, ◌+◌, ◌-◌, ◌<◌, ◌≤◌, List, [], ◌∷◌, ◌++◌, length, get_or, take, drop, set, replicate, sym, refl, ap, ◌∙◌, arith}
+use Rattle.std.proofs.Common.{◌≡◌, ℕ, zero, suc, ◌+◌, ◌-◌, List, [], ◌∷◌, ◌++◌, length, take, drop, set, replicate, sym, ap, ◌∙◌, arith}
 use borrow.Rule.Slice.PartMut.{put_mid}
 use Rattle.std.proofs.lemmas.List.{drop_all, append-nil, drop-replicate, drop-drop, drop-take}
-use Rattle.layout.specs.Layout.{record_at, card_number_of, record_start, record_length, sector_length}
+use Rattle.layout.specs.Layout.{record_at, card_number_of, record_start}
 
 pub mid_is : (image : List ℕ) (at n : ℕ) → take ((at + n) - at) (drop at image) ≡ take n (drop at image)
 mid_is image at n = let e : (at + n) - at ≡ n = omega arith in ap (λ (k : ℕ). take k (drop at image)) e

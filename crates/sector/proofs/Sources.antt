@@ -1,5 +1,5 @@
 -- What the record of a sector says to a call that reads it, and what the ring's cipher makes of it.
-use Rattle.std.proofs.Common.{◌≡◌, ℕ, zero, suc, ◌+◌, ◌-◌, ◌<◌, ◌≤◌, Bool, true, false, cond, not, ◌||◌, eqb, ltb, List, [], ◌∷◌, ◌++◌, map, length, get_or, take, drop, Ok, Err, Result, sym, refl, ap, ◌∙◌, arith, length-drop}
+use Rattle.std.proofs.Common.{◌≡◌, ℕ, ◌+◌, ◌-◌, ◌<◌, Bool, true, false, cond, eqb, ltb, List, [], ◌∷◌, ◌++◌, length, get_or, take, drop, Ok, Err, Result, sym, refl, ap, ◌∙◌, arith, length-drop}
 use borrow.Rule.Slice.PartMut.{put_mid}
 use Rattle.std.proofs.lemmas.Bool.{and_parts, ltb-true}
 use Rattle.std.proofs.lemmas.List.{get_or-map, take_all}
@@ -8,10 +8,10 @@ use Rattle.fault.specs.declared.Fault.{Fault}
 use Rattle.fault.specs.declared.Fault.TheVariants.{BlankNotZero}
 use Rattle.fault.specs.Faults.{dead_sector, refused_if, placed}
 use Rattle.layout.specs.Checks.{ruled, verdict}
-use Rattle.layout.specs.Layout.{zeros, record_length, sealed_mark, put_record, record_at, card_number_of, record_start, is_blank_mark}
+use Rattle.layout.specs.Layout.{zeros, sealed_mark, put_record, record_at, card_number_of, record_start, is_blank_mark}
 use Rattle.sheet.specs.Sectors.{Sectors}
-use Rattle.sheet.specs.Promise.{Sector, blank, holds, one, sealed_by, unsealed_by, dead_by, record_of, dead_check, sector_checks, key_of, text_of}
-use Rattle.sheet.specs.Images.{image_view, image_with, is_own_mark, sector_of}
+use Rattle.sheet.specs.Promise.{holds, one, sealed_by, unsealed_by, dead_by, dead_check, sector_checks, key_of, text_of}
+use Rattle.sheet.specs.Images.{image_view, image_with, is_own_mark}
 use Rattle.sheet.specs.Parts.{source_checks}
 
 -- an outcome of sealing with its place

@@ -1,5 +1,5 @@
 -- Parts of a list of bytes are bytes.
-use Rattle.std.proofs.Common.{ℕ, ◌+◌, ◌<◌, ◌≤◌, List, length, get_or, take, drop, ⊎_elim, arith, length-take}
+use Rattle.std.proofs.Common.{ℕ, ◌+◌, ◌<◌, ◌≤◌, List, length, take, drop, ⊎_elim, arith, length-take}
 use Rattle.std.proofs.lemmas.List.{get_or-drop, get_or_past, get_or-take}
 use Rattle.std.proofs.lemmas.Bool.{cases_lt}
 use Rattle.kind.specs.Laws.{Bytes}

@@ -1,13 +1,12 @@
 -- Every cipher of every kind seals sectors lawfully: the one place where cards meet the sealing mode.
-use Rattle.std.proofs.Common.{◌≡◌, ℕ, Bool, true, false, List, Some, None, Ok, Err, Option, Result, sym, refl, ap, ◌∙◌, ⊎_elim}
-use Rattle.std.proofs.lemmas.Bool.{cases_Bool}
+use Rattle.std.proofs.Common.{◌≡◌, ℕ, Bool, true, false, List, Option, Result, sym, refl, ap, ◌∙◌}
 use Rattle.fault.specs.declared.SealFault.{SealFault}
 use Rattle.fault.specs.Faults.{refused_if}
 use Rattle.kind.specs.Laws.{Ops, Laws}
 use Rattle.sealing.specs.Mode.{maps, sealing, unsealing, answer, left}
 use Rattle.sealing.specs.Texts.{Text, Lawful, Decided, is_none, text_sealing}
 use Rattle.sealing.proofs.Lawfuls.{lawful, decided}
-use Rattle.sheet.specs.Sectors.{Sectors, sectors, LawfulSectors, sector_tweak, sector_dead, sector_sealed, sector_unsealed}
+use Rattle.sheet.specs.Sectors.{sectors, LawfulSectors, sector_tweak, sector_dead, sector_sealed, sector_unsealed}
 
 -- an outcome that the tweak's being dead decides
 by_dead : (d : Bool) (r : Result (Unit {0}) SealFault) → (d ≡ true → r ≡ refused_if true) → (d ≡ false → r ≡ refused_if false) → r ≡ refused_if d

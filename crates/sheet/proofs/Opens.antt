@@ -1,21 +1,20 @@
 -- An image that open accepts is the card of the sheet that it says; and the promise on lists. Assumes nothing.
-use Rattle.std.proofs.Common.{◌≡◌, ℕ, zero, suc, ◌+◌, ◌-◌, ◌*◌, ◌/◌, ◌<◌, ◌≤◌, Bool, true, false, cond, not, ◌&&◌, ◌||◌, eqb, ltb, leb, List, [], ◌∷◌, ◌++◌, map, length, get_or, take, drop, set, replicate, is_ok, Result, sym, refl, ap, ◌∙◌, ⊎_elim, append_assoc, arith, length-append, length-drop, length-set, take-append-drop, length-take}
-use lib.ListN.{length-replicate}
+use Rattle.std.proofs.Common.{◌≡◌, ℕ, zero, suc, ◌+◌, ◌*◌, ◌≤◌, true, false, not, ◌&&◌, eqb, leb, List, [], ◌∷◌, ◌++◌, length, get_or, drop, replicate, is_ok, Result, sym, refl, ap, ◌∙◌, arith, length-drop, take-append-drop, length-take}
 use Rattle.fault.specs.declared.Fault.{Fault}
-use Rattle.std.proofs.lemmas.List.{take_at, drop_at, drop-drop, take_all, drop_all}
-use Rattle.std.proofs.lemmas.Bool.{eqb-true, eq-eqb, and_parts, and_from, le-leb, leb-true, lt-ltb, ltb-true, cases_Bool, leb-false, not-false, not_from_true, cond-true, cond-false}
+use Rattle.std.proofs.lemmas.List.{drop-drop, drop_all}
+use Rattle.std.proofs.lemmas.Bool.{eqb-true, and_parts, and_from, le-leb, leb-true, not-false, not_from_true, cond-true}
 use Rattle.kind.specs.Laws.{Bytes}
 use Rattle.sheet.specs.Sectors.{Sectors, LawfulSectors}
-use Rattle.sheet.specs.Promise.{IsRing, Sector, blank, holds, Sheet, record_of, records, Sealable, AllSealable, IsCardOf, Call, format, opening, write, read, rekey, copy, erase, View, sheet_view, checks, ring_check, sector_checks, own_dead, Begins, IsFormatOrOpen, Kept, KeepsSheet, OpensExactlyCards, answer}
+use Rattle.sheet.specs.Promise.{IsRing, Sector, blank, holds, Sheet, records, Sealable, AllSealable, IsCardOf, Call, format, opening, write, read, rekey, copy, erase, View, sheet_view, checks, ring_check, sector_checks, own_dead, IsFormatOrOpen, Kept, KeepsSheet, OpensExactlyCards, answer}
 use Rattle.sheet.specs.Images.{image_view, image_after, final_image, answers_on, Given, AllGiven}
 use Rattle.layout.specs.Layout.{header_of}
-use Rattle.layout.specs.Checks.{Check, ◌⇒◌, verdict}
-use Rattle.layout.specs.Layout.{is_blank_mark, zeros, count_of, is_sized, is_headed, card_number_of, record_start, record_at, put_record}
+use Rattle.layout.specs.Checks.{verdict}
+use Rattle.layout.specs.Layout.{count_of, is_sized, is_headed, card_number_of, record_start, record_at}
 use Rattle.sheet.proofs.Bytes.{bytes_drop, bytes_take}
-use Rattle.layout.proofs.Parts.{drop_past, take_past, put_mid_past, same_parts, two_first}
+use Rattle.layout.proofs.Parts.{two_first}
 use Rattle.sheet.proofs.Records.{Passes, record_says}
-use Rattle.layout.proofs.Verdicts.{Same, same_verdict, Passed, accepted, accepts}
-use Rattle.sheet.proofs.Views.{Agree, verdict_same, card_agrees, card_sound}
+use Rattle.layout.proofs.Verdicts.{Passed, accepted, accepts}
+use Rattle.sheet.proofs.Views.{verdict_same, card_agrees, card_sound}
 use Rattle.sheet.proofs.Steps.{fresh_card, list_card, list_said, one_sheet, sheet_of}
 
 module _ {C : Type 0} (S : Sectors C) (law : LawfulSectors S) (ring : List C) where

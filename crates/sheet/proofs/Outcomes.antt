@@ -1,13 +1,13 @@
 -- From the outcome of a part of a call to what the whole call results in.
-use Rattle.std.proofs.Common.{◌≡◌, ℕ, suc, Bool, true, false, cond, List, [], ◌∷◌, ◌++◌, is_ok, IsErrAnd, Ok, Err, Result, sym, refl, ap, ◌∙◌}
+use Rattle.std.proofs.Common.{◌≡◌, ℕ, suc, cond, List, ◌++◌, is_ok, IsErrAnd, Ok, Err, Result, sym, ap, ◌∙◌}
 use Rattle.std.proofs.lemmas.Bool.{cond-true, cond-false}
 use Rattle.std.proofs.lemmas.Result.{err_from_is_err_and}
 use Rattle.fault.specs.declared.Fault.{Fault}
 use Rattle.layout.specs.Checks.{Check, ruled, verdict}
 use Rattle.layout.proofs.Verdicts.{Passed, ruled_err, ruled_on}
 use Rattle.sheet.specs.Sectors.{Sectors}
-use Rattle.sheet.specs.Promise.{Call, read, View, checks, sector_checks, Change, change, text_of}
-use Rattle.sheet.specs.Images.{image_view, image_with, image_after, outcome_on, Acts, ReadsText}
+use Rattle.sheet.specs.Promise.{Call, read, View, checks, sector_checks, Change, change}
+use Rattle.sheet.specs.Images.{image_view, image_with, outcome_on, Acts, ReadsText}
 
 module _ {C : Type 0} (S : Sectors C) (ring : List C) (image : List ℕ) where
   -- a part of the checks refuses, those before it passed

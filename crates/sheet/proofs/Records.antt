@@ -1,17 +1,17 @@
 -- Records of a card. Assumes nothing.
-use Rattle.std.proofs.Common.{◌≡◌, ℕ, zero, suc, ◌+◌, ◌-◌, ◌*◌, ◌/◌, ◌<◌, ◌≤◌, Bool, true, false, cond, not, ◌&&◌, ◌||◌, eqb, ltb, leb, List, [], ◌∷◌, ◌++◌, map, length, get_or, take, drop, set, replicate, sym, refl, ap, ◌∙◌, ⊎_elim, append_assoc, arith, length-append, length-drop, take-append-drop, length-take}
+use Rattle.std.proofs.Common.{◌≡◌, ℕ, zero, suc, ◌+◌, ◌*◌, ◌<◌, true, false, not, ◌||◌, eqb, ltb, List, [], ◌∷◌, ◌++◌, length, get_or, take, drop, set, replicate, sym, refl, ap, ◌∙◌, ⊎_elim, arith, length-append, length-drop}
 use lib.ListN.{length-replicate, replicate-append-replicate}
 use borrow.Rule.Slice.PartMut.{put_mid}
-use Rattle.std.proofs.lemmas.List.{take_at, drop_at, drop-drop, get_or-map, take_all, drop_all}
-use Rattle.std.proofs.lemmas.Bool.{eqb-true, eq-eqb, and_parts, lt-ltb, ltb-true, cases_Bool}
+use Rattle.std.proofs.lemmas.List.{take_at, get_or-map}
+use Rattle.std.proofs.lemmas.Bool.{eqb-true, and_parts, lt-ltb, ltb-true, cases_Bool}
 use Rattle.sealing.specs.Texts.{Text}
 use Rattle.kind.specs.Laws.{Bytes}
 use Rattle.sheet.specs.Sectors.{Sectors, LawfulSectors}
 use Rattle.sheet.specs.Promise.{Sector, blank, holds, sealed_by, unsealed_by, dead_by, record_of, records, Sealable, AllSealable}
 use Rattle.sheet.specs.Images.{is_own_mark, sector_of}
 use Rattle.layout.specs.Layout.{is_blank_mark, zeros}
-use Rattle.sheet.proofs.Bytes.{bytes_drop, bytes_take}
-use Rattle.layout.proofs.Parts.{drop_past, take_past, put_mid_past, put_mid_first, same_parts, two_first, zeros_are, zeros_of}
+use Rattle.sheet.proofs.Bytes.{bytes_drop}
+use Rattle.layout.proofs.Parts.{drop_past, put_mid_past, put_mid_first, same_parts, two_first, zeros_are, zeros_of}
 
 -- the cipher at place k of a ring
 pub record Chosen {C : Type 0} (S : Sectors C) (ring : List C) (k : ℕ) : Type 0 where

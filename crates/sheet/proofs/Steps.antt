@@ -1,20 +1,19 @@
 -- Each call takes the card of a sheet to the card of the sheet after it; so does a list of calls. Assumes nothing.
-use Rattle.std.proofs.Common.{◌≡◌, ℕ, zero, suc, ◌+◌, ◌-◌, ◌*◌, ◌/◌, ◌<◌, ◌≤◌, Bool, true, false, cond, not, ◌&&◌, ◌||◌, eqb, ltb, leb, List, [], ◌∷◌, ◌++◌, map, length, get_or, take, drop, set, replicate, is_ok, sym, refl, ap, ◌∙◌, ⊎_elim, append_assoc, arith, length-append, length-drop, length-set, take-append-drop, length-take}
+use Rattle.std.proofs.Common.{◌≡◌, ℕ, ◌+◌, ◌*◌, ◌<◌, ◌≤◌, true, false, eqb, List, [], ◌∷◌, ◌++◌, length, get_or, set, replicate, is_ok, sym, refl, ap, ◌∙◌, ⊎_elim, arith, length-set}
 use lib.ListN.{length-replicate}
 use borrow.Rule.Slice.PartMut.{put_mid}
-use Rattle.std.proofs.lemmas.List.{take_at, drop_at, drop-drop, take_all, drop_all}
-use Rattle.std.proofs.lemmas.Bool.{eqb-true, eq-eqb, and_parts, and_from, le-leb, leb-true, lt-ltb, ltb-true, cases_Bool, leb-false, not-false, not_from_true, cond-true, cond-false}
+use Rattle.std.proofs.lemmas.Bool.{eqb-true, cases_Bool, leb-false, not-false, cond-true, cond-false}
 use Rattle.sealing.specs.Texts.{Text}
 use Rattle.sheet.specs.Sectors.{Sectors, LawfulSectors}
-use Rattle.sheet.specs.Promise.{Sector, blank, holds, Sheet, record_of, records, Sealable, AllSealable, IsCardOf, Call, format, opening, write, read, rekey, copy, erase, View, sheet_view, sheet_with, Change, one, change, is_blank, key_of, text_of, checks, sheet_after, final_sheet, decided, EqualCardsEqualSheets}
+use Rattle.sheet.specs.Promise.{Sector, blank, holds, Sheet, record_of, records, Sealable, AllSealable, IsCardOf, Call, format, opening, write, read, rekey, copy, erase, sheet_view, sheet_with, one, change, is_blank, key_of, text_of, checks, sheet_after, final_sheet, decided, EqualCardsEqualSheets}
 use Rattle.sheet.specs.Images.{image_view, image_with, image_after, final_image, answers_on, Given, AllGiven}
 use Rattle.layout.specs.Layout.{header_of}
-use Rattle.layout.specs.Checks.{Check, ◌⇒◌, verdict}
-use Rattle.layout.specs.Layout.{is_blank_mark, zeros, count_of, is_sized, is_headed, card_number_of, record_start, record_at, put_record}
-use Rattle.layout.proofs.Parts.{drop_past, take_past, put_mid_past, same_parts, two_first}
-use Rattle.sheet.proofs.Records.{record_long, records_long, sound_at, sound_set, record_read, record_put, blanks_sound, blanks_are, says_back, marked_back, zeroed_back, records_same, Passes, record_says}
-use Rattle.layout.proofs.Verdicts.{Same, same_verdict, Passed, accepted, accepts}
-use Rattle.sheet.proofs.Views.{Agree, verdict_same, change_same, answer_same, header_long, card_long, card_count, card_sized, card_headed, card_number, card_record, card_sound, card_agrees}
+use Rattle.layout.specs.Checks.{verdict}
+use Rattle.layout.specs.Layout.{card_number_of, record_start}
+use Rattle.layout.proofs.Parts.{put_mid_past, same_parts}
+use Rattle.sheet.proofs.Records.{sound_set, record_put, blanks_sound, blanks_are, records_same}
+use Rattle.layout.proofs.Verdicts.{Passed, accepted}
+use Rattle.sheet.proofs.Views.{verdict_same, change_same, answer_same, header_long, card_long, card_count, card_number, card_sound, card_agrees}
 
 abbrev pub sheet_of : List ℕ → List Sector → Sheet
 sheet_of n xs = record { number = n; sectors = xs }

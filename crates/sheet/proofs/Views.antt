@@ -1,20 +1,17 @@
 -- A card as a call sees it is its sheet as a call sees it. Assumes nothing.
-use Rattle.std.proofs.Common.{◌≡◌, ℕ, zero, suc, ◌+◌, ◌-◌, ◌*◌, ◌/◌, ◌<◌, ◌≤◌, Bool, true, false, cond, not, ◌&&◌, ◌||◌, eqb, ltb, leb, List, [], ◌∷◌, ◌++◌, map, length, get_or, take, drop, set, replicate, is_ok, sym, refl, ap, ◌∙◌, ⊎_elim, append_assoc, arith, length-append, length-drop, take-append-drop, length-take}
-use lib.ListN.{length-replicate}
-use borrow.Rule.Slice.PartMut.{put_mid}
-use Rattle.std.proofs.lemmas.List.{take_at, drop_at, drop-drop, take_all, drop_all}
-use Rattle.std.proofs.lemmas.Bool.{eqb-true, eq-eqb, and_parts, and_from, le-leb, lt-ltb, ltb-true, cases_Bool, leb-false, not-false}
-use Rattle.fault.specs.declared.Fault.TheVariants.{RingSize, ImageLength, BadHeader, NoSector, NoKey, TextLength, BadMark, BlankNotZero, BlankSector, CardNumberLength}
+use Rattle.std.proofs.Common.{◌≡◌, ℕ, zero, suc, ◌+◌, ◌*◌, ◌<◌, ◌≤◌, Bool, true, false, cond, not, ◌&&◌, ◌||◌, eqb, leb, List, length, get_or, take, drop, is_ok, refl, ap, ◌∙◌, arith, length-append}
+use Rattle.std.proofs.lemmas.List.{take_at}
+use Rattle.std.proofs.lemmas.Bool.{eq-eqb, and_from, le-leb, leb-false}
 use Rattle.fault.specs.Faults.{dead_sector}
 use Rattle.sheet.specs.Sectors.{Sectors, LawfulSectors}
-use Rattle.sheet.specs.Promise.{Sector, blank, holds, Sheet, dead_by, record_of, records, Sealable, AllSealable, IsCardOf, Call, format, opening, write, read, rekey, copy, erase, View, sheet_view, Change, nothing, all_blank, one, change, is_blank, key_of, text_of, checks, sector_checks, own_dead, buffer_after, Answer, answer}
+use Rattle.sheet.specs.Promise.{Sector, blank, holds, Sheet, dead_by, record_of, records, Sealable, IsCardOf, Call, format, opening, write, read, rekey, copy, erase, View, sheet_view, one, change, is_blank, key_of, text_of, checks, sector_checks, own_dead, buffer_after, answer}
 use Rattle.sheet.specs.Images.{is_own_mark, sector_of, image_view}
 use Rattle.layout.specs.Layout.{header_of}
-use Rattle.layout.specs.Checks.{Check, ◌⇒◌, verdict}
-use Rattle.layout.specs.Layout.{is_blank_mark, zeros, count_of, is_sized, is_headed, card_number_of, record_start, record_at, put_record}
-use Rattle.layout.proofs.Parts.{drop_past, take_past, put_mid_past, same_parts, two_first}
-use Rattle.sheet.proofs.Records.{record_long, records_long, sound_at, record_read, says_back, marked_back, zeroed_back}
-use Rattle.layout.proofs.Verdicts.{Same, same_verdict, Passed, accepted}
+use Rattle.layout.specs.Checks.{verdict}
+use Rattle.layout.specs.Layout.{is_blank_mark, zeros, count_of, is_sized, is_headed, card_number_of, record_at}
+use Rattle.layout.proofs.Parts.{drop_past}
+use Rattle.sheet.proofs.Records.{records_long, sound_at, record_read, says_back, marked_back, zeroed_back}
+use Rattle.layout.proofs.Verdicts.{Same, same_verdict, accepted}
 
 -- two views that no call can tell apart
 pub record Agree (v u : View) : Type 0 where

@@ -1,5 +1,5 @@
 -- The calls on the bytes of an image, opened or not: what a call sees there, and what it leaves.
-use Rattle.std.specs.Prelude.{◌≡◌, ℕ, Bool, cond, not, ◌||◌, List, [], ◌∷◌, ◌++◌, length, drop, is_ok, Result, slice_index}
+use Rattle.std.specs.Prelude.{◌≡◌, ℕ, Bool, cond, not, ◌||◌, List, [], ◌∷◌, length, drop, is_ok, Result, slice_index}
 use Rattle.fault.specs.declared.Fault.{Fault}
 use Rattle.kind.specs.Laws.{Bytes}
 use Rattle.layout.specs.Layout.{mark_length, blank_card, count_of, is_sized, is_headed, card_number_of, record_at, put_record, is_blank_mark, is_key_mark, zeros}

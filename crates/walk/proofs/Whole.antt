@@ -1,14 +1,14 @@
 -- The whole walk, from what each record gives.
-use Rattle.std.proofs.Common.{◌≡◌, ℕ, zero, suc, ◌+◌, ◌-◌, ◌*◌, ◌<◌, ◌≤◌, Bool, true, false, cond, not, ◌&&◌, ◌||◌, List, [], ◌∷◌, length, get_or, take, drop, Some, None, Ok, Err, Result, sym, refl, ap, ◌∙◌, arith}
+use Rattle.std.proofs.Common.{◌≡◌, ℕ, zero, suc, ◌+◌, ◌-◌, ◌<◌, ◌≤◌, true, false, List, [], ◌∷◌, length, drop, Ok, Err, refl, ap, ◌∙◌, arith}
 use Rattle.fault.specs.declared.Fault.{Fault}
 use Rattle.fault.specs.declared.Fault.TheVariants.{BlankNotZero}
 use Rattle.layout.specs.declared.Entry.{Entry}
 use Rattle.layout.specs.declared.Entry.TheVariants.{Blank, Sealed}
-use Rattle.layout.specs.Layout.{is_blank_mark, is_key_mark, zeros}
+use Rattle.layout.specs.Layout.{is_blank_mark, zeros}
 use Rattle.layout.specs.Entries.{Reads, ReadsEntry}
 use Rattle.walk.specs.declared.Entries.{Entries}
-use Rattle.walk.specs.Contents.{Content, Outcome, content, outcome_of, record_from, walk_from, on}
-use Rattle.walk.specs.Walks.{held, seen, Ready, coming, Steps, Gives}
+use Rattle.walk.specs.Contents.{Outcome, outcome_of, record_from, walk_from, on}
+use Rattle.walk.specs.Walks.{held, seen, Ready, coming, Gives}
 
 -- a refused mark
 pub bad_mark : (r : List ℕ) (s : ℕ) (f : Fault) → Reads r 8 s (Err f) → Err f ≡ outcome_of r s

@@ -1,5 +1,5 @@
 -- What the walk gives for a card image: the rules, on lists of bytes.
-use Rattle.std.specs.Prelude.{ℕ, zero, suc, ◌+◌, ◌*◌, Bool, cond, not, ◌&&◌, ◌||◌, List, [], ◌∷◌, take, drop, Ok, Err, Result, slice_index}
+use Rattle.std.specs.Prelude.{ℕ, zero, suc, ◌+◌, ◌*◌, cond, not, ◌&&◌, ◌||◌, List, [], ◌∷◌, take, drop, Ok, Err, Result, slice_index}
 use Rattle.fault.specs.declared.Fault.{Fault}
 use Rattle.fault.specs.declared.Fault.TheVariants.{BlankNotZero, BadMark}
 use Rattle.layout.specs.Checks.{Check, ◌⇒◌, ruled}

@@ -1,5 +1,5 @@
 -- What a walk under way has still to give, and what it means to have given it.
-use Rattle.std.specs.Prelude.{◌≡◌, ℕ, ◌+◌, ◌-◌, ◌*◌, ◌≤◌, List, [], ◌∷◌, length, Some, None, Ok, Err, Option, Result}
+use Rattle.std.specs.Prelude.{◌≡◌, ◌+◌, ◌-◌, ◌*◌, ◌≤◌, List, [], ◌∷◌, length, Some, None, Ok, Err, Option, Result}
 use Rattle.std.specs.Iterator.{AlwaysYields}
 use Rattle.fault.specs.declared.Fault.{Fault}
 use Rattle.layout.specs.declared.Entry.{Entry}

@@ -42,7 +42,7 @@ returns g c =
     let k = c.args.new_key in
     let n = c.in_ok-count.count in
     let h = c.in_ok-count.ensures.outcome in
-    let q = ruled_ok (source_checks S ring v s) (key_of (v.sector s)) c.in_ok-_old_key._old-key (sym c.in_ok-_old_key.ensures.outcome) in
+    let q = ruled_ok (source_checks S ring v s) (key_of (v.sector s)) c.in_ok-_old_key._old_key (sym c.in_ok-_old_key.ensures.outcome) in
     let last : List Check = dead_check S ring v s k ∷ [] in
     acts_last S ring image (rekey s k) (one s (holds k c.load_text.new.text)) last c.store_text.result c.store_text.new.image
     (outcome_left S ring image (rekey s k) (before_rekey S ring image n h s k) (source_checks S ring v s) last refl (passed_rekey S ring image n h s k (omega arith) (omega arith)) q.0)

@@ -1,5 +1,5 @@
 -- The four writes leave the blank card.
-use Rattle.std.proofs.Common.{◌≡◌, ℕ, ◌+◌, ◌-◌, ◌*◌, true, ◌&&◌, eqb, leb, List, ◌∷◌, ◌++◌, length, set, replicate, sym, refl, ap, ◌∙◌, arith, rules}
+use Rattle.std.proofs.Common.{◌≡◌, ℕ, ◌+◌, ◌-◌, ◌*◌, ◌&&◌, eqb, leb, List, length, set, ap, ◌∙◌, arith}
 use borrow.Rule.Slice.PartMut.{put_mid}
 use Rattle.std.proofs.lemmas.Bool.{and_parts, eqb-true}
 use Rattle.layout.specs.Layout.{count_of}

@@ -1,5 +1,5 @@
 -- The three writes leave mark and bytes.
-use Rattle.std.proofs.Common.{◌≡◌, ℕ, List, set, ap, ◌∙◌}
+use Rattle.std.proofs.Common.{ℕ, List, set, ap, ◌∙◌}
 use borrow.Rule.Slice.PartMut.{put_mid}
 use Rattle.layout.proofs.Cuts.{filled}
 use Rattle.layout.proofs.fill_record.Goals as goal

@@ -1,5 +1,5 @@
 -- The part that is cut out is the record, and it is whole.
-use Rattle.std.proofs.Common.{◌≡◌, ◌-◌, ◌≤◌, length, take, drop, sym, ap, ◌∙◌, arith, length-drop, length-take}
+use Rattle.std.proofs.Common.{◌≤◌, length, drop, ap, ◌∙◌, arith, length-drop}
 use Rattle.std.proofs.lemmas.List.{length-take-le}
 use Rattle.layout.specs.Layout.{record_start}
 use Rattle.layout.proofs.Cuts.{cut_record}

@@ -1,5 +1,5 @@
 -- By the record's entry: blank with zeros, blank with another byte, sealed.
-use Rattle.std.proofs.Common.{◌≡◌, sym, ap, ◌∙◌}
+use Rattle.std.proofs.Common.{◌∙◌}
 use Rattle.sheet.specs.Sectors.{sectors}
 use Rattle.sector.specs.Rings.{ciphers_of}
 use Rattle.sector.proofs.Sources.{on_ring, blank_passes, blank_refused, sealed_passes}

@@ -1,5 +1,5 @@
 -- The tweak is dead exactly where the enciphered tweak has no inverse.
-use Rattle.std.proofs.Common.{◌≡◌, sym, ap, ◌∙◌}
+use Rattle.std.proofs.Common.{sym, ap, ◌∙◌}
 use Rattle.fault.specs.Faults.{refused_if}
 use Rattle.sealing.specs.Texts.{is_none}
 use Rattle.sheet.proofs.Lawful.{dead_by_none}

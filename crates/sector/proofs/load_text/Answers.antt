@@ -1,5 +1,5 @@
 -- A sealed record: the outcome is that of unsealing its bytes, with the place added.
-use Rattle.std.proofs.Common.{◌≡◌, Ok, Err, sym, ap, ◌∙◌}
+use Rattle.std.proofs.Common.{Ok, ap, ◌∙◌}
 use Rattle.std.proofs.lemmas.Result.{err_from_is_err_and}
 use Rattle.sheet.specs.Sectors.{sectors}
 use Rattle.sheet.specs.Promise.{key_of}

@@ -1,5 +1,5 @@
 -- The outcome is that of sealing the text, with the place added; accepted, the record is the sealed one.
-use Rattle.std.proofs.Common.{◌≡◌, sym, refl, ap, ◌∙◌}
+use Rattle.std.proofs.Common.{refl}
 use Rattle.std.proofs.lemmas.Result.{err_from_is_err_and}
 use Rattle.sheet.specs.Sectors.{sectors}
 use Rattle.sector.specs.Rings.{ciphers_of}

@@ -1,5 +1,5 @@
 -- The tweak that was stored is the sector's, so the call's outcome and what it leaves are the sector's.
-use Rattle.std.proofs.Common.{◌≡◌, ℕ, List, sym, ap, ◌∙◌}
+use Rattle.std.proofs.Common.{ℕ, List, ap, ◌∙◌}
 use Rattle.sealing.specs.Mode.{maps, unsealing, answer, left}
 use Rattle.sealing.specs.Texts.{Text}
 use Rattle.sheet.proofs.Lawful.{unseal_outcome, unseal_left}

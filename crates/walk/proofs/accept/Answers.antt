@@ -1,8 +1,8 @@
 -- Each way out is what the rules give for the record.
-use Rattle.std.proofs.Common.{◌≡◌, ℕ, ◌≤◌, true, false, List, length, take, drop, sym, refl, ap, ◌∙◌, arith, length-drop}
+use Rattle.std.proofs.Common.{◌≡◌, ℕ, ◌≤◌, List, length, take, drop, sym, ap, ◌∙◌, arith, length-drop}
 use Rattle.std.proofs.lemmas.List.{take_all}
 use Rattle.layout.specs.Layout.{zeros}
-use Rattle.walk.proofs.Whole.{bad_mark, good_blank, bad_blank, good_sealed}
+use Rattle.walk.proofs.Whole.{good_blank, bad_blank, good_sealed}
 use Rattle.walk.proofs.accept.Goals as goal
 use Rattle.walk.proofs.accept.Goals.{in-Blank+else-not-all_zero, in_default}
 

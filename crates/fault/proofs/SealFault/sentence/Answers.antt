@@ -1,5 +1,5 @@
 -- Each case is the text that its definition spells.
-use Rattle.std.proofs.Common.{◌≡◌, sym, ap}
+use Rattle.std.proofs.Common.{sym, ap}
 use Rattle.fault.specs.Faults.{seal_sentence}
 use Rattle.fault.proofs.SealFault.sentence.Goals as goal
 

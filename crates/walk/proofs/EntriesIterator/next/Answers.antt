@@ -1,5 +1,5 @@
 -- The record that is cut out is the next one; after a refusal nothing is left.
-use Rattle.std.proofs.Common.{◌≡◌, ℕ, ◌+◌, ◌-◌, ◌*◌, ◌<◌, List, ◌∷◌, Err, sym, refl, ap, ◌∙◌, arith, rules}
+use Rattle.std.proofs.Common.{◌≡◌, ℕ, ◌+◌, ◌-◌, ◌*◌, ◌<◌, List, ◌∷◌, Err, sym, ap, ◌∙◌, arith, rules}
 use Rattle.layout.proofs.Cuts.{mid_is}
 use Rattle.walk.specs.Contents.{Outcome, on, walk_from}
 use Rattle.walk.proofs.Whole.{walk_one}
