@@ -1,9 +1,9 @@
 -- One call of a list.
-use Rattle.std.proofs.Common.{◌≡◌, ℕ, Bool, true, false, cond, List, [], ◌∷◌, ◌++◌, length, take, drop, is_ok, Result, sym, refl, ap, ◌∙◌}
+use Rattle.std.proofs.Common.{◌≡◌, ℕ, Bool, true, false, cond, List, ◌++◌, length, take, drop, is_ok, Result, refl, ap, ◌∙◌}
 use Rattle.std.proofs.lemmas.List.{take_at}
 use Rattle.fault.specs.declared.Fault.{Fault}
 use Rattle.sheet.specs.Sectors.{Sectors}
-use Rattle.sheet.specs.Promise.{Call, read, Answer, buffer_after}
+use Rattle.sheet.specs.Promise.{Call, read, buffer_after}
 use Rattle.sheet.specs.Images.{Given, image_view, answer_on, outcome_on, image_after, ReadsText}
 use Rattle.calls.specs.declared.step.Call.{Call as CodeCall}
 use Rattle.calls.specs.Runs.{call_of, answered, asked, Made}

@@ -1,8 +1,8 @@
 -- A list of calls, one more made.
-use Rattle.std.proofs.Common.{◌≡◌, ℕ, zero, suc, ◌+◌, ◌<◌, ◌≤◌, List, [], ◌∷◌, ◌++◌, length, get_or, take, drop, set, sym, refl, ap, ◌∙◌, subst, append_assoc, arith}
+use Rattle.std.proofs.Common.{◌≡◌, ℕ, zero, suc, ◌+◌, ◌<◌, List, [], ◌∷◌, ◌++◌, length, get_or, take, drop, set, sym, refl, ap, ◌∙◌, subst, append_assoc, arith}
 use Rattle.sheet.specs.Sectors.{Sectors}
 use Rattle.sheet.specs.Promise.{Call, Answer}
-use Rattle.sheet.specs.Images.{answer_on, answers_on, final_image, image_after, Given, AllGiven}
+use Rattle.sheet.specs.Images.{answer_on, answers_on, final_image, AllGiven}
 use Rattle.calls.specs.declared.step.Step.{Step}
 use Rattle.calls.specs.Runs.{call_of, answered, Made, calls_of, answers_of, asked, all_asked}
 use Rattle.std.proofs.lemmas.List.{drop_more, drop-set-lt, take_more_set}

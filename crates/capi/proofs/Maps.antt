@@ -1,6 +1,6 @@
 -- A cipher that was made from a key has the maps of that key.
-use Rattle.std.proofs.Common.{◌≡◌, ℕ, List, take, drop, refl, ap, ◌∙◌, ap₂}
-use Rattle.sealing.specs.Mode.{Maps, maps}
+use Rattle.std.proofs.Common.{◌≡◌, ℕ, List, take, drop, ap, ◌∙◌, ap₂}
+use Rattle.sealing.specs.Mode.{maps}
 use Rattle.aes.specs.declared.keyed.Aes.{Aes}
 use Rattle.aes.specs.Blocks.{encrypted, decrypted}
 use Rattle.aes.specs.Keys.{key_expansion}

@@ -1,5 +1,5 @@
 -- The checks that a call has passed when it comes to the sector's record.
-use Rattle.std.proofs.Common.{◌≡◌, ℕ, ◌<◌, true, false, not, eqb, leb, List, [], ◌∷◌, ◌++◌, length, Ok, sym, ap, ◌∙◌, arith}
+use Rattle.std.proofs.Common.{◌≡◌, ℕ, ◌<◌, false, eqb, leb, List, [], ◌∷◌, ◌++◌, length, Ok, sym, arith}
 use Rattle.std.proofs.lemmas.Bool.{lt-leb, eq-eqb, not_from_true}
 use Rattle.layout.specs.Checks.{Check, ruled}
 use Rattle.layout.specs.Layout.{count_of, sector_length}

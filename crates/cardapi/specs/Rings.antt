@@ -1,10 +1,9 @@
 -- Rings given as bytes: the ciphers under the keys, and how sectors are sealed by each type of cipher.
-use Rattle.std.specs.Prelude.{◌≡◌, ℕ, List, [], ◌∷◌, map, get_or, take, drop, replicate}
+use Rattle.std.specs.Prelude.{ℕ, List, take, drop}
 use Rattle.sheet.specs.Sectors.{Sectors, sectors}
 use Rattle.poly.specs.declared.short.Short.{Short}
 use Rattle.aes.specs.declared.keyed.Aes.{Aes}
 use Rattle.aes.specs.Blocks.{encrypted, decrypted}
-use Rattle.aes.specs.Keys.{key_expansion}
 use Rattle.xtea.specs.declared.Xtea.{Xtea}
 use Rattle.xtea.specs.Blocks as xtea
 use Rattle.xtea.specs.Xtea.{key_words}

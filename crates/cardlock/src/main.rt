@@ -2,6 +2,7 @@
 #![tactic(auto)]
 
 use aes::Aes;
+use anyhow::anyhow;
 use calls::{Call, Step};
 use capi::whitened_under;
 use cipher::Whitened;
@@ -16,23 +17,31 @@ use xtea::Xtea;
 const USAGE: &str = "usage: cardlock IMAGE RING SCRIPT (docs/cardlock.md says what they hold)";
 
 fn main(rt: HostRuntime) -> anyhow::Result<()> {
-    run(&rt)
+    run(&rt).map_err(|error| in_quotes(rt.alloc(), error))
+}
+
+// The error with its text in quotes, as it is printed.
+fn in_quotes(heap: Global, error: anyhow::Error) -> anyhow::Error {
+    match format!(in heap; "{error}") {
+        Ok(text) => anyhow!("{text:?}"),
+        Err(_) => error,
+    }
 }
 
 fn run(rt: &HostRuntime) -> anyhow::Result<()> {
     let mut words = env::args(rt)?;
     let _program = words.next();
     let Some(image_name) = words.next() else {
-        return Err(USAGE.into());
+        return Err(anyhow!(USAGE));
     };
     let Some(ring_name) = words.next() else {
-        return Err(USAGE.into());
+        return Err(anyhow!(USAGE));
     };
     let Some(script_name) = words.next() else {
-        return Err(USAGE.into());
+        return Err(anyhow!(USAGE));
     };
     if words.next().is_some() {
-        return Err(USAGE.into());
+        return Err(anyhow!(USAGE));
     }
     let keys = load_ring(rt, ring_name.as_str())?;
     let lines = load_script(rt, script_name.as_str())?;
@@ -72,15 +81,15 @@ fn run(rt: &HostRuntime) -> anyhow::Result<()> {
 // An error that names a file.
 fn error_in(heap: Global, name: &str, problem: Problem) -> anyhow::Error {
     match format!(in heap; "{name}: {problem}") {
-        Ok(text) => text.as_str().into(),
-        Err(_) => "there is no memory".into(),
+        Ok(text) => anyhow!("{text}"),
+        Err(_) => anyhow!("there is no memory"),
     }
 }
 
 fn no_file(heap: Global, name: &str) -> anyhow::Error {
     match format!(in heap; "{name}: cannot be read") {
-        Ok(text) => text.as_str().into(),
-        Err(_) => "there is no memory".into(),
+        Ok(text) => anyhow!("{text}"),
+        Err(_) => anyhow!("there is no memory"),
     }
 }
 

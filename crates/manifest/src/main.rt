@@ -4,11 +4,20 @@
 use anyhow::anyhow;
 use listing::LONGEST_IMAGE;
 use poly::Wide;
+use std::alloc::Global;
 use std::env;
 use std::io::Read;
 
 fn main(rt: HostRuntime) -> anyhow::Result<()> {
-    run(&rt)
+    run(&rt).map_err(|error| in_quotes(rt.alloc(), error))
+}
+
+// The error with its text in quotes, as it is printed.
+fn in_quotes(heap: Global, error: anyhow::Error) -> anyhow::Error {
+    match format!(in heap; "{error}") {
+        Ok(text) => anyhow!("{text:?}"),
+        Err(_) => error,
+    }
 }
 
 // Prints the manifest of the card on standard input, or, given a word, only the usage. One byte more than a lawful image is enough to see that it is too long.

@@ -1,5 +1,5 @@
 -- A walk as C sees it: its outcome, and a byte for each sector.
-use Rattle.std.specs.Prelude.{ℕ, ◌+◌, Bool, cond, List, [], ◌∷◌, length, is_ok, Ok, Err, Result, nat_lt, slice_set}
+use Rattle.std.specs.Prelude.{ℕ, ◌+◌, cond, List, [], ◌∷◌, length, is_ok, Ok, Err, Result, nat_lt, slice_set}
 use Rattle.fault.specs.declared.Fault.{Fault}
 use Rattle.walk.specs.Contents.{Content, blank, sealed, Outcome}
 

@@ -1,5 +1,5 @@
 -- Each call as the list's promise reads it; search shows the others.
-use Rattle.std.proofs.Common.{◌≡◌, ℕ, List, [], length, vec_items, sym, refl, ap, ◌∙◌, arith}
+use Rattle.std.proofs.Common.{◌≡◌, length, vec_items, refl, ap, arith}
 use Rattle.kind.specs.Laws.{Bytes}
 use Rattle.sector.specs.Rings.{ciphers_of}
 use Rattle.sheet.specs.Sectors.{sectors}

@@ -1,11 +1,9 @@
 -- For every ring: refused by length or header; else the record is zeros.
-use Rattle.std.proofs.Common.{◌≡◌, ℕ, ◌+◌, ◌-◌, ◌<◌, false, leb, List, [], ◌∷◌, ◌++◌, length, take, drop, replicate, sym, refl, ap, ◌∙◌, arith, length-drop, length-take}
+use Rattle.std.proofs.Common.{◌≡◌, ℕ, ◌+◌, ◌-◌, false, leb, List, [], ◌∷◌, length, take, drop, replicate, sym, refl, ap, ◌∙◌, arith, length-drop, length-take}
 use borrow.Rule.Slice.PartMut.{put_mid}
-use Rattle.layout.specs.Checks.{Check, verdict}
 use Rattle.layout.specs.Layout.{count_of, record_start}
 use Rattle.layout.proofs.Verdicts.{ruled_ok, ruled_on}
 use Rattle.std.proofs.lemmas.Bool.{lt-leb}
-use Rattle.sector.specs.Rings.{ciphers_of}
 use Rattle.sheet.specs.Sectors.{sectors}
 use Rattle.sheet.specs.Images.{image_view}
 use Rattle.sheet.specs.Promise.{erase, sector_check}

@@ -1,8 +1,6 @@
 -- Refused by one of the first three checks, or by the sector itself.
-use Rattle.std.proofs.Common.{◌≡◌, ℕ, ◌<◌, List, [], ◌∷◌, ◌++◌, length, sym, refl, ap, ◌∙◌, arith}
-use Rattle.layout.specs.Checks.{Check, verdict}
+use Rattle.std.proofs.Common.{[], refl, arith}
 use Rattle.layout.specs.Layout.{count_of}
-use Rattle.layout.proofs.Verdicts.{ruled_ok}
 use Rattle.sector.specs.Rings.{ciphers_of}
 use Rattle.sheet.specs.Sectors.{sectors}
 use Rattle.sheet.specs.Images.{image_view}

@@ -1,12 +1,12 @@
 -- Refused by one of the first three checks or by the sector under its old key; else the writing under the new key decides.
-use Rattle.std.proofs.Common.{◌≡◌, ℕ, ◌<◌, List, [], ◌∷◌, ◌++◌, length, sym, refl, ap, ◌∙◌, arith}
-use Rattle.layout.specs.Checks.{Check, verdict}
+use Rattle.std.proofs.Common.{ℕ, List, [], ◌∷◌, sym, refl, ap, arith}
+use Rattle.layout.specs.Checks.{Check}
 use Rattle.layout.specs.Layout.{count_of}
 use Rattle.layout.proofs.Verdicts.{ruled_ok}
 use Rattle.sector.specs.Rings.{ciphers_of}
 use Rattle.sheet.specs.Sectors.{sectors}
 use Rattle.sheet.specs.Images.{image_view}
-use Rattle.sheet.specs.Promise.{rekey, one, holds, dead_check, key_of, text_of}
+use Rattle.sheet.specs.Promise.{rekey, one, holds, dead_check, key_of}
 use Rattle.sheet.specs.Parts.{ring_and_image_checks, source_checks}
 use Rattle.sheet.proofs.Outcomes.{acts_refused, acts_last, outcome_left}
 use Rattle.card.proofs.Fronts.{before_rekey, passed_rekey}

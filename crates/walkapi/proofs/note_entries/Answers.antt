@@ -1,5 +1,5 @@
 -- Where the loop begins: no more comes than a card has sectors.
-use Rattle.std.proofs.Common.{◌≡◌, refl, arith, rules}
+use Rattle.std.proofs.Common.{refl, arith, rules}
 use Rattle.walk.specs.Walks.{Ready}
 use Rattle.walk.proofs.Whole.{few_coming}
 use Rattle.walkapi.proofs.note_entries.Goals as goal

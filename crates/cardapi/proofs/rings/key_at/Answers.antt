@@ -1,5 +1,5 @@
 -- A key that is there is read, and past them a zero one stands.
-use Rattle.std.proofs.Common.{sym, refl, rules}
+use Rattle.std.proofs.Common.{sym, rules}
 use borrow.Author.Rules.{get_or_read}
 use Rattle.std.proofs.lemmas.List.{get_or_past}
 use Rattle.cardapi.specs.Cards.{no_key}
