@@ -1,5 +1,5 @@
 -- The division of the modulus by an element, over the width: what is left is a product of the quotient and the divisor.
-use Rattle.std.proofs.Common.{◌≡◌, ℕ, zero, suc, ◌+◌, ◌-◌, ◌*◌, ◌/◌, ◌%◌, ◌^◌, ◌<◌, ◌≤◌, ◌≢◌, sym, ap, ◌∙◌, subst, ap₂, le_trans, le_of_eq, lt_of_lt_of_le, lt_of_le_of_lt, mul-le-mul_right, mod-lt, mod-eq_of_lt, mul_assoc as times-assoc, mul_comm as times-comm, mul-lt-mul_of_pos_right, one-mul, pow-suc, zero-mul, mul-one, arith, pow_pos, pow_mono, pow-add}
+use Rattle.std.proofs.Common.{◌≡◌, ℕ, zero, suc, ◌+◌, ◌-◌, ◌*◌, ◌/◌, ◌%◌, ◌^◌, ◌<◌, ◌≤◌, ◌≢◌, sym, ap, ◌∙◌, subst, ap₂, le_trans, le_of_eq, lt_of_lt_of_le, lt_of_le_of_lt, mul-le-mul_right, mod-lt, mod-eq_of_lt, mul_assoc as times_assoc, mul_comm as times_comm, mul-lt-mul_of_pos_right, one-mul, pow-suc, zero-mul, mul-one, arith, pow_pos, pow_mono, pow-add}
 use native.Mathlib.Nat.{div-eq_of_lt, div-eq_of_lt-le}
 use native.Mathlib.Decide.{dec_lt}
 use lib.Pow.{pow-lt, split}
@@ -53,7 +53,7 @@ module _ (n f : ℕ) (fits : f < 2 ^ n) (wide : 1 < n) where
   pub shift_small : (j u : ℕ) → j < n → u < 2 ^ n → u * 2 ^ j < 2 ^ n → mul n f (2 ^ j) u ≡ u * 2 ^ j
   shift_small zero u h hu b = ring.mul_one_l n f fits wide u hu ∙ sym (mul-one u)
   shift_small (suc j) u h hu b =
-      let e : u * 2 ^ suc j ≡ u * 2 ^ j * 2 = ap (λ t. u * t) (pow-suc 2 j) ∙ sym (times-assoc u (2 ^ j) 2) in
+      let e : u * 2 ^ suc j ≡ u * 2 ^ j * 2 = ap (λ t. u * t) (pow-suc 2 j) ∙ sym (times_assoc u (2 ^ j) 2) in
       let c : u * 2 ^ j * 2 < 2 ^ n = subst (λ t. t < 2 ^ n) e b in
       let k : j < n = omega arith in
       let d : u * 2 ^ j < 2 ^ n = omega arith in
@@ -65,12 +65,12 @@ module _ (n f : ℕ) (fits : f < 2 ^ n) (wide : 1 < n) where
   shift_first z u h hu lo hi =
       let k : z < n = omega arith in
       let e : n ≡ suc (n - 1) = omega arith in
-      let p : 2 ^ n ≡ 2 * 2 ^ (n - 1) = ap (λ k. 2 ^ k) e ∙ pow-suc 2 (n - 1) ∙ times-comm (2 ^ (n - 1)) 2 in
+      let p : 2 ^ n ≡ 2 * 2 ^ (n - 1) = ap (λ k. 2 ^ k) e ∙ pow-suc 2 (n - 1) ∙ times_comm (2 ^ (n - 1)) 2 in
       let q : u * 2 ^ z / 2 ^ (n - 1) ≡ 1 = div-eq_of_lt-le (2 ^ (n - 1)) (omega (arith, one-mul (2 ^ (n - 1)))) (subst (λ t. u * 2 ^ z < t) p hi) in
       pow_more z u h hu
       ∙ ap (times_x n f) (shift_small z u k hu hi)
       ∙ sym (carried n f (u * 2 ^ z) q)
-      ∙ ap (λ t. bit_xor (t % 2 ^ n) f) (times-assoc u (2 ^ z) 2 ∙ ap (λ t. u * t) (sym (pow-suc 2 z)))
+      ∙ ap (λ t. bit_xor (t % 2 ^ n) f) (times_assoc u (2 ^ z) 2 ∙ ap (λ t. u * t) (sym (pow-suc 2 z)))
 
   -- where the highest bit stands, by the zeros in front
   at_top : (d z u : ℕ) → z + suc d ≡ n → 2 ^ d ≤ u → u < 2 ^ suc d → (2 ^ (n - 1) ≤ u * 2 ^ z) × (u * 2 ^ z < 2 ^ n)

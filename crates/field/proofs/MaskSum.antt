@@ -5,15 +5,15 @@ use Rattle.field.specs.Mask.{times, singles, pairs, run, by_rest, coefficients, 
 
 module _ {E : Type 0} (add : E → E → E) (zer : E) (by_x : E → E)
     (assoc : (a b c : E) → add (add a b) c ≡ add a (add b c))
-    (zero-l : (a : E) → add zer a ≡ a)
+    (zero_l : (a : E) → add zer a ≡ a)
     (self : (a : E) → add a a ≡ zer)
     (linear : (a b : E) → by_x (add a b) ≡ add (by_x a) (by_x b)) where
   cancel : (a b : E) → add a (add a b) ≡ b
-  cancel a b = sym (assoc a a b) ∙ ap (λ z. add z b) (self a) ∙ zero-l b
+  cancel a b = sym (assoc a a b) ∙ ap (λ z. add z b) (self a) ∙ zero_l b
 
   total_append : (es bs : List E) → total add zer (es ++ bs) ≡ add (total add zer es) (total add zer bs)
   unfolding total
-  total_append [] bs = sym (zero-l (total add zer bs))
+  total_append [] bs = sym (zero_l (total add zer bs))
   total_append (a ∷ es) bs = ap (add a) (total_append es bs) ∙ sym (assoc a (total add zer es) (total add zer bs))
 
   pub times_linear : (k : ℕ) (a b : E) → times by_x k (add a b) ≡ add (times by_x k a) (times by_x k b)

@@ -1,6 +1,6 @@
 -- The product modulo x^n + f: commutative, associative, distributive, with a one. For every n and f.
 -- Every element acts as a linear map that commutes with x, and such a map is decided by its value at one.
-use Rattle.std.proofs.Common.{◌≡◌, ℕ, zero, suc, ◌+◌, ◌-◌, ◌*◌, ◌/◌, ◌%◌, ◌^◌, ◌<◌, ◌≤◌, ◌∷◌, map, sym, refl, ap, ◌∙◌, subst, ap₂, mod-lt, mod-eq_of_lt, mul_assoc as times-assoc, mul_comm as times-comm, add-mul, mul-lt-mul_of_pos_right, one-mul, pow-suc, div-add-mod', zero-mul, mul-one, arith, pow_pos}
+use Rattle.std.proofs.Common.{◌≡◌, ℕ, zero, suc, ◌+◌, ◌-◌, ◌*◌, ◌/◌, ◌%◌, ◌^◌, ◌<◌, ◌≤◌, ◌∷◌, map, sym, refl, ap, ◌∙◌, subst, ap₂, mod-lt, mod-eq_of_lt, mul_assoc as times_assoc, mul_comm as times_comm, add-mul, mul-lt-mul_of_pos_right, one-mul, pow-suc, div-add-mod', zero-mul, mul-one, arith, pow_pos}
 use native.Mathlib.Nat.{div-eq_of_lt}
 use lib.Pow.{pow-lt}
 use lib.Bits.{bit_xor, xor_mod, xor_shr, xor_comm, xor_zero_r, xor_lt, xor_shifted}
@@ -95,9 +95,9 @@ module _ (n f : ℕ) (fits : f < 2 ^ n) where
       ap (λ x. bit_xor (v % 2 * 2 ^ j) (combine (powers n f (suc k) x) (v / 2))) (times_x_pow j (omega arith))
       ∙ ap (bit_xor (v % 2 * 2 ^ j)) (basis (suc k) (suc j) (v / 2) (omega arith) (omega (arith, pow-suc 2 (suc k))))
       ∙ xor_comm (v % 2 * 2 ^ j) (v / 2 * 2 ^ suc j)
-      ∙ xor_shifted (v / 2) (suc j) (v % 2 * 2 ^ j) (subst (λ x. v % 2 * 2 ^ j < x) (times-comm 2 (2 ^ j) ∙ sym (pow-suc 2 j)) (mul-lt-mul_of_pos_right (bit_lt v) (pow_pos j)))
-      ∙ ap (λ x. v / 2 * x + v % 2 * 2 ^ j) (pow-suc 2 j ∙ times-comm (2 ^ j) 2)
-      ∙ ap (λ x. x + v % 2 * 2 ^ j) (sym (times-assoc (v / 2) 2 (2 ^ j)))
+      ∙ xor_shifted (v / 2) (suc j) (v % 2 * 2 ^ j) (subst (λ x. v % 2 * 2 ^ j < x) (times_comm 2 (2 ^ j) ∙ sym (pow-suc 2 j)) (mul-lt-mul_of_pos_right (bit_lt v) (pow_pos j)))
+      ∙ ap (λ x. v / 2 * x + v % 2 * 2 ^ j) (pow-suc 2 j ∙ times_comm (2 ^ j) 2)
+      ∙ ap (λ x. x + v % 2 * 2 ^ j) (sym (times_assoc (v / 2) 2 (2 ^ j)))
       ∙ sym (add-mul (v / 2 * 2) (v % 2) (2 ^ j))
       ∙ ap (λ x. x * 2 ^ j) (div-add-mod' v 2)
 

@@ -1,5 +1,5 @@
 -- The product by windows of k bits, the highest first, over the width.
-use Rattle.std.proofs.Common.{◌≡◌, ℕ, zero, suc, ◌+◌, ◌-◌, ◌*◌, ◌/◌, ◌%◌, ◌^◌, ◌<◌, ◌≤◌, map, sym, refl, ap, ◌∙◌, subst, ap₂, lt_of_le_of_lt, add-zero, mod-lt, mul_assoc as times-assoc, mul_comm as times-comm, add-mul, pow-suc, div-add-mod', mul-one, div-one, arith, pow_pos, pow-add, shr-shr}
+use Rattle.std.proofs.Common.{◌≡◌, ℕ, zero, suc, ◌+◌, ◌-◌, ◌*◌, ◌/◌, ◌%◌, ◌^◌, ◌<◌, ◌≤◌, map, sym, refl, ap, ◌∙◌, subst, ap₂, lt_of_le_of_lt, add-zero, mod-lt, mul_assoc as times_assoc, mul_comm as times_comm, add-mul, pow-suc, div-add-mod', mul-one, div-one, arith, pow_pos, pow-add, shr-shr}
 use native.Mathlib.Nat.{mul-add-mod_self_right, div-eq_of_lt}
 use lib.Pow.{split, shl-shr, shr_le, field}
 use lib.Bits.{bit_xor, xor_block, xor_mod, xor_shifted}
@@ -26,7 +26,7 @@ mod_times : (x y m : ℕ) → x % m * y % m ≡ x * y % m
 mod_times x y m =
     sym (ap (λ t. t * y % m) (sym (div-add-mod' x m))
     ∙ ap (λ t. t % m) (add-mul (x / m * m) (x % m) y
-    ∙ ap (λ t. t + x % m * y) (times-assoc (x / m) m y ∙ ap (λ t. x / m * t) (times-comm m y) ∙ sym (times-assoc (x / m) y m)))
+    ∙ ap (λ t. t + x % m * y) (times_assoc (x / m) m y ∙ ap (λ t. x / m * t) (times_comm m y) ∙ sym (times_assoc (x / m) y m)))
     ∙ mul-add-mod_self_right (x / m * y) m (x % m * y))
 
 -- the window of k bits below the first i of them, in what is left after i bits are shifted out
@@ -40,7 +40,7 @@ window_top n k i a h =
 
 pub window_rest : (n k i a : ℕ) → a * 2 ^ i % 2 ^ n * 2 ^ k % 2 ^ n ≡ a * 2 ^ (i + k) % 2 ^ n
 window_rest n k i a =
-    mod_times (a * 2 ^ i) (2 ^ k) (2 ^ n) ∙ ap (λ t. t % 2 ^ n) (times-assoc a (2 ^ i) (2 ^ k) ∙ ap (λ t. a * t) (sym (pow-add 2 i k)))
+    mod_times (a * 2 ^ i) (2 ^ k) (2 ^ n) ∙ ap (λ t. t % 2 ^ n) (times_assoc a (2 ^ i) (2 ^ k) ∙ ap (λ t. a * t) (sym (pow-add 2 i k)))
 
 module _ (n f : ℕ) (fits : f < 2 ^ n) where
   pub raise_linear : (k : ℕ) → Linear (raise n f k)
@@ -83,7 +83,7 @@ module _ (n f : ℕ) (fits : f < 2 ^ n) where
     unfolding raise
     raise_l zero q b h hb = ap (λ t. mul n f t b) (mul-one q)
     raise_l (suc k) q b h hb =
-        let e : q * 2 ^ suc k ≡ q * 2 ^ k * 2 = ap (λ t. q * t) (pow-suc 2 k) ∙ sym (times-assoc q (2 ^ k) 2) in
+        let e : q * 2 ^ suc k ≡ q * 2 ^ k * 2 = ap (λ t. q * t) (pow-suc 2 k) ∙ sym (times_assoc q (2 ^ k) 2) in
         let l : q * 2 ^ k * 2 < 2 ^ n = subst (λ t. t < 2 ^ n) e h in
         ap (λ t. mul n f t b) e ∙ double_l (q * 2 ^ k) b l hb ∙ ap (times_x n f) (raise_l k q b (omega arith) hb)
 
@@ -127,9 +127,9 @@ module _ (n f : ℕ) (fits : f < 2 ^ n) where
 
     -- the multiples of b in a table: the even ones, and those after them
     pub even : (i b : ℕ) → i * 2 < 2 ^ n → b < 2 ^ n → mul n f (2 * i) b ≡ times_x n f (mul n f i b)
-    even i b h hb = ap (λ t. mul n f t b) (times-comm 2 i) ∙ double_l i b h hb
+    even i b h hb = ap (λ t. mul n f t b) (times_comm 2 i) ∙ double_l i b h hb
 
     pub odd : (i b : ℕ) → i * 2 < 2 ^ n → b < 2 ^ n → mul n f (2 * i + 1) b ≡ bit_xor (times_x n f (mul n f i b)) b
     unfolding raise
     odd i b h hb =
-        ap (λ t. mul n f (t + 1) b) (times-comm 2 i) ∙ parts 1 i 1 b h (omega arith) hb ∙ ap (bit_xor (times_x n f (mul n f i b))) (ring.mul_one_l n f fits wide b hb)
+        ap (λ t. mul n f (t + 1) b) (times_comm 2 i) ∙ parts 1 i 1 b h (omega arith) hb ∙ ap (bit_xor (times_x n f (mul n f i b))) (ring.mul_one_l n f fits wide b hb)

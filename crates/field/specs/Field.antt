@@ -1,4 +1,4 @@
--- Polynomials over the field of two elements as numbers: bit i of the number is the coefficient of x^i, and the sum is bitXor.
+-- Polynomials over the field of two elements as numbers: bit i of the number is the coefficient of x^i, and the sum is `bit_xor`.
 -- The modulus is x^n + f, with f, its low terms, below 2^n. The elements are the numbers below 2^n.
 use Rattle.std.specs.Prelude.{ℕ, zero, suc, ◌-◌, ◌*◌, ◌/◌, ◌%◌, ◌^◌, List, [], ◌∷◌, bit_xor}
 

@@ -140,12 +140,12 @@ module _ {K : Type 0} (F : Ops K) where
   -- The refusals, in their order, of a call with a tweak of t bytes on a buffer of len bytes, and else what f gives from the inverse of R; none is
   -- looked for at one block.
   abbrev pub checked : {A : Type 0} → ℕ → ℕ → Option K → (K → A) → Result A SealFault
-  checked t len inverse-of-R f =
+  checked t len inverse_of_R f =
       refuse_unless (t == size) TweakLength
       (refuse_if (len == 0) NotWholeBlocks
       (refuse_unless (len % size == 0) NotWholeBlocks
       (refuse_unless (nat_le (len / size) most_blocks) TooManyBlocks
-      (cond (nat_le (len / size) 1) (Ok (f zero)) (with_inverse inverse-of-R f)))))
+      (cond (nat_le (len / size) 1) (Ok (f zero)) (with_inverse inverse_of_R f)))))
 
   module _ (c : Maps K) where
     open c use {E, D}
