@@ -19,6 +19,6 @@ turn_back s =
 abbrev pub encrypted : Turning → Short → Short
 encrypted c b = through_bytes short_ops turn (short_ops.add b c.key)
 
--- D(b) = turn-back b ⊕ key
+-- D(b) = turn_back b ⊕ key
 abbrev pub decrypted : Turning → Short → Short
 decrypted c b = short_ops.add (through_bytes short_ops turn_back b) c.key
