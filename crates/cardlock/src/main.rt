@@ -11,20 +11,29 @@ use script::{CipherName, Command, Keys, Line, Problem, Source, Target, Told, Wro
 use sector::Ring;
 use std::alloc::{AllocError, Global};
 use std::rt::Files;
-use std::{env, fs};
+use std::{env, fmt, fs};
 use xtea::Xtea;
 
 const USAGE: &str = "usage: cardlock IMAGE RING SCRIPT (docs/cardlock.md says what they hold)";
 
-fn main(rt: HostRuntime) -> anyhow::Result<()> {
-    run(&rt).map_err(|error| in_quotes(rt.alloc(), error))
+fn main(rt: HostRuntime) -> Result<(), Failure> {
+    run(&rt).map_err(|error| Failure {
+        text: format!(in rt.alloc(); "{error}"),
+    })
 }
 
-// The error with its text in quotes, as it is printed.
-fn in_quotes(heap: Global, error: anyhow::Error) -> anyhow::Error {
-    match format!(in heap; "{error}") {
-        Ok(text) => anyhow!("{text:?}"),
-        Err(_) => error,
+// What ends the program with status 1. It is printed as the error's text in quotes.
+#[derive(Drop)]
+struct Failure {
+    text: Result<String, AllocError>,
+}
+
+impl fmt::Debug for Failure {
+    fn fmt<W: fmt::Write>(&self, f: &mut fmt::Formatter<W>) -> fmt::Result {
+        match &self.text {
+            Ok(text) => write!(f, "{text:?}"),
+            Err(_) => write!(f, "\"there is no memory\""),
+        }
     }
 }
 

@@ -4,19 +4,28 @@
 use anyhow::anyhow;
 use listing::LONGEST_IMAGE;
 use poly::Wide;
-use std::alloc::Global;
-use std::env;
+use std::alloc::AllocError;
 use std::io::Read;
+use std::{env, fmt};
 
-fn main(rt: HostRuntime) -> anyhow::Result<()> {
-    run(&rt).map_err(|error| in_quotes(rt.alloc(), error))
+fn main(rt: HostRuntime) -> Result<(), Failure> {
+    run(&rt).map_err(|error| Failure {
+        text: format!(in rt.alloc(); "{error}"),
+    })
 }
 
-// The error with its text in quotes, as it is printed.
-fn in_quotes(heap: Global, error: anyhow::Error) -> anyhow::Error {
-    match format!(in heap; "{error}") {
-        Ok(text) => anyhow!("{text:?}"),
-        Err(_) => error,
+// What ends the program with status 1. It is printed as the error's text in quotes.
+#[derive(Drop)]
+struct Failure {
+    text: Result<String, AllocError>,
+}
+
+impl fmt::Debug for Failure {
+    fn fmt<W: fmt::Write>(&self, f: &mut fmt::Formatter<W>) -> fmt::Result {
+        match &self.text {
+            Ok(text) => write!(f, "{text:?}"),
+            Err(_) => write!(f, "\"there is no memory\""),
+        }
     }
 }
 
