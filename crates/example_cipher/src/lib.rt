@@ -10,7 +10,7 @@ ghost use Rattle.example_cipher.specs.Turns.{short_laws, turned_back, turned_for
 ghost use Rattle.cipher.specs.Bytes.{through_bytes};
 
 use cipher::Cipher;
-use kind::{Block, Block as _};
+use kind::Block;
 use poly::Short;
 
 // The cipher under a key of one block.
