@@ -105,13 +105,13 @@ impl<C: Cipher> Whitened<C> {
 impl<C: Cipher> Cipher for Whitened<C> {
     type Block = C::Block;
 
-    ghost enc = { λ w b. C.Block.Block.ops.add (C.Cipher.enc w.inner (C.Block.Block.ops.add b w.before)) w.after };
+    ghost enc = { λ w b. C.Block.ops.add (C.enc w.inner (C.Block.ops.add b w.before)) w.after };
 
-    ghost dec = { λ w b. C.Block.Block.ops.add (C.Cipher.dec w.inner (C.Block.Block.ops.add b w.after)) w.before };
+    ghost dec = { λ w b. C.Block.ops.add (C.dec w.inner (C.Block.ops.add b w.after)) w.before };
 
-    ghost back = { λ c b. whitened_back C.Block.Block.ops C.Block.Block.laws (C.Cipher.enc c.inner) (C.Cipher.dec c.inner) (C.Cipher.back c.inner) c.before c.after b };
+    ghost back = { λ c b. whitened_back C.Block.ops C.Block.laws (C.enc c.inner) (C.dec c.inner) (C.back c.inner) c.before c.after b };
 
-    ghost forth = { λ c b. whitened_back C.Block.Block.ops C.Block.Block.laws (C.Cipher.dec c.inner) (C.Cipher.enc c.inner) (C.Cipher.forth c.inner) c.after c.before b };
+    ghost forth = { λ c b. whitened_back C.Block.ops C.Block.laws (C.dec c.inner) (C.enc c.inner) (C.forth c.inner) c.after c.before b };
 
     fn encrypt(&self, b: C::Block) -> C::Block {
         self.inner.encrypt(b.add(self.before)).add(self.after)

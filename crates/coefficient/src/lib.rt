@@ -81,7 +81,7 @@ pub fn mask_coefficient<K: Block>(m: usize, i: usize) -> Option<K>
 // The degree of that coefficient in a polynomial kind, by leading zeros: that of the written polynomial, and below the kind's width. None
 // where `mask_coefficient` has none.
 pub fn mask_degree<P: Field>(m: usize, i: usize) -> Option<u32>
-    ensures { CoefficientDegree P.Poly.width m i result }
+    ensures { CoefficientDegree P.width m i result }
 {
     let Some(coefficient) = mask_coefficient::<P>(m, i) else {
         return None;

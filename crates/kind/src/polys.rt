@@ -9,7 +9,7 @@ use poly::{Field, Poly, inverted};
 impl<P: Field> Block for P {
     const BYTES: usize = <P as Field>::BYTES;
 
-    ghost ops = { poly_ops P.Poly.width P.Poly.modulus P.Poly.value P.Poly.numbers };
+    ghost ops = { poly_ops P.width P.modulus P.value P.numbers };
 
     ghost laws = { let p = P.Poly in poly_laws p.width p.modulus p.value p.field p.numbers };
 

@@ -9,9 +9,9 @@ use kind::pass::Step;
 
 // Multiplies a block by its power of r.
 impl<K: Block> Step<K> for Powers<K> {
-    ghost out = { λ s b. power_now K.Block.ops s b };
+    ghost out = { λ s b. power_now K.ops s b };
 
-    ghost next = { λ s b. power_next K.Block.ops s };
+    ghost next = { λ s b. power_next K.ops s };
 
     fn step(&mut self, b: K) -> K {
         if self.first {
@@ -67,9 +67,9 @@ pub(crate) fn first_masks<K: Block>(value: K, m: u16) -> Masks<K>
 
 // Adds the mask of three blocks and more: doublings and sums, and no product.
 impl<K: Block> Step<K> for Masks<K> {
-    ghost out = { λ s b. K.Block.ops.add b (mask_now K.Block.ops s) };
+    ghost out = { λ s b. K.ops.add b (mask_now K.ops s) };
 
-    ghost next = { λ s b. mask_next K.Block.ops s };
+    ghost next = { λ s b. mask_next K.ops s };
 
     fn step(&mut self, b: K) -> K {
         let at = self.at;
@@ -108,7 +108,7 @@ pub struct Enciphering<'a, C> {
 }
 
 impl<'a, C: Cipher> Step<C::Block> for Enciphering<'a, C> {
-    ghost out = { λ s b. C.Cipher.enc s.cipher.now b };
+    ghost out = { λ s b. C.enc s.cipher.now b };
 
     ghost next = { λ s b. s };
 

@@ -16,30 +16,30 @@ pub trait Field: Poly {
 
     // The constant BYTES.
     fn size() -> usize
-        ensures { result * 8 ≡ Self.Poly.width };
+        ensures { result * 8 ≡ Self.width };
 
     // The element whose number is n.
     fn numbered(n: u64) -> Self
-        ensures { Self.Poly.value result ≡ n };
+        ensures { Self.value result ≡ n };
 
     // The element whose coefficients are the bits of the bytes, the highest first. Called with just the bytes of one element.
     fn read(from: &[u8]) -> Self
-        requires { length from.now * 8 ≡ Self.Poly.width }
-        ensures { Self.Poly.value result ≡ number from.now };
+        requires { length from.now * 8 ≡ Self.width }
+        ensures { Self.value result ≡ number from.now };
 
     // Writes the element's bytes over `into`. Called with just the bytes of one element.
     fn write(self, into: &mut [u8])
-        requires { length into.old * 8 ≡ Self.Poly.width }
-        ensures { into.new ≡ bytes (length into.old) (Self.Poly.value self) };
+        requires { length into.old * 8 ≡ Self.width }
+        ensures { into.new ≡ bytes (length into.old) (Self.value self) };
 
     // The product.
     fn product(self, other: Self) -> Self
-        ensures { Self.Poly.value result ≡ mul Self.Poly.width Self.Poly.modulus (Self.Poly.value self) (Self.Poly.value other) };
+        ensures { Self.value result ≡ mul Self.width Self.modulus (Self.value self) (Self.value other) };
 
     // The products of one element with two others, which share its tables.
     fn products(self, a: Self, c: Self) -> (Self, Self)
-        ensures first { Self.Poly.value result.0 ≡ mul Self.Poly.width Self.Poly.modulus (Self.Poly.value a) (Self.Poly.value self) }
-        ensures second { Self.Poly.value result.1 ≡ mul Self.Poly.width Self.Poly.modulus (Self.Poly.value c) (Self.Poly.value self) };
+        ensures first { Self.value result.0 ≡ mul Self.width Self.modulus (Self.value a) (Self.value self) }
+        ensures second { Self.value result.1 ≡ mul Self.width Self.modulus (Self.value c) (Self.value self) };
 }
 
 impl Field for Short {
