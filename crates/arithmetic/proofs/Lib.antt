@@ -1,1 +1,2 @@
--- No lemma of its own: those on numbers are in `field`.
+-- The steps of the inverse.
+pub mod Descents

@@ -6,14 +6,6 @@ ghost use Rattle.arithmetic.specs.Tables.{Multiples, Ready};
 
 use crate::poly::Poly;
 
-// The entry i of a table of sixteen.
-fn entry<P: Poly>(all: &[P; 16], i: usize) -> P
-    requires { i < 16 }
-    ensures { result ≡ slice_index_or all.now i result }
-{
-    all[i]
-}
-
 // The multiples of b by the sixteen polynomials of a degree below four.
 fn multiples<P: Poly>(b: P) -> [P; 16]
     ensures { Multiples P.width P.modulus P.value (P.value b) result }
@@ -21,8 +13,7 @@ fn multiples<P: Poly>(b: P) -> [P; 16]
     let mut all = [P::zero(); 16];
     all[1] = b;
     for i in 1..8usize {
-        let half = entry(&all, i);
-        let even = half.doubled();
+        let even = all[i].doubled();
         all[2 * i] = even;
         all[2 * i + 1] = even.plus(b);
     }
@@ -38,17 +29,17 @@ fn by_sixteen<P: Poly>(b: P) -> P
 
 // An element by which many others are multiplied, with its multiples and those of x^4 times it.
 #[derive(Drop)]
-pub struct Multiplier<P> {
+pub struct Multiplier<P: Poly> {
     of: P,
     low: [P; 16],
     high: [P; 16],
+    pub ghost ready: { Ready P.width P.modulus P.value of low high },
 }
 
 impl<P: Poly> Multiplier<P> {
     // The tables of b.
     pub fn new(b: P) -> Multiplier<P>
-        ensures of { result.of ≡ b }
-        ensures ready { Ready P.width P.modulus P.value result.of result.low result.high }
+        ensures { result.of ≡ b }
     {
         Multiplier {
             of: b,
@@ -57,18 +48,16 @@ impl<P: Poly> Multiplier<P> {
         }
     }
 
-    // The product of a and the element: eight coefficients of a at a turn, the highest first. Called on tables that `new` made.
+    // The product of a and the element: eight coefficients of a at a turn, the highest first.
     pub fn times(&self, a: P) -> P
-        requires { Ready P.width P.modulus P.value self.now.of self.now.low self.now.high }
         ensures { P.value result ≡ mul P.width P.modulus (P.value a) (P.value self.now.of) }
     {
         let mut sum = P::zero();
         let mut rest = a;
-        for i in 0..P::bytes() {
+        for _ in 0..P::bytes() {
             let byte = rest.top();
-            let upper = entry(&self.high, byte >> 4);
-            let lower = entry(&self.low, byte & 15);
-            sum = sum.raised().plus(upper.plus(lower));
+            let multiple = self.high[byte >> 4].plus(self.low[byte & 15]);
+            sum = sum.raised().plus(multiple);
             rest = rest.shifted(8);
         }
         sum

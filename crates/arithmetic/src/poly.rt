@@ -1,10 +1,10 @@
 // What a kind of polynomials gives, its degree by leading zeros, and its inverse by division.
 ghost use Rattle.std.specs.Prelude.{◌≡◌, ℕ, ◌+◌, ◌-◌, ◌*◌, ◌/◌, ◌%◌, ◌^◌, ◌<◌, ◌≤◌, ◌≢◌, MatchOption, bit_xor};
 ghost use Rattle.std.specs.Int.Count.{count_leading_zeros};
-ghost use Rattle.field.specs.Degree.{Degree, places};
+ghost use Rattle.field.specs.Degree.{Degree};
 ghost use Rattle.field.specs.Field.{mul, times_x};
 ghost use Rattle.field.specs.Window.{raise};
-ghost use Rattle.arithmetic.specs.Descent.{Descent};
+ghost use Rattle.arithmetic.specs.Descent.{Descent, Division};
 ghost use Rattle.arithmetic.specs.Facts.{Modulus, Numbers};
 
 // A kind of polynomials over the field of two elements, of a degree below the kind's width. `value` is an element's number, whose bit i is
@@ -64,90 +64,94 @@ pub trait Poly: Copy {
         ensures { value result ≡ value self * 2 ^ by % 2 ^ width };
 }
 
-// How many places the coefficients take up, from the highest one down: one more than the degree, and none for zero.
-fn places_of<P: Poly>(a: P) -> u32
-    ensures { result ≡ places P.width (P.value a) }
-{
-    P::bits() - a.zeros()
-}
-
 // The degree, the place of the highest one bit; none for zero.
 pub fn degree<P: Poly>(a: P) -> Option<u32>
     ensures { MatchOption result (P.value a ≡ 0) (Degree (P.value a)) }
 {
-    let places = places_of(a);
-    if places == 0 {
-        return None;
-    }
-    Some(places - 1)
+    (P::bits() - a.zeros()).checked_sub(1)
 }
 
-// The modulus divided by u: the quotient, and what is left, which in the field is the quotient times u. Called with a degree of one or more.
-fn divided<P: Poly>(u: P) -> (P, P)
-    requires { 1 < P.value u }
-    ensures product { P.value result.1 ≡ mul P.width P.modulus (P.value result.0) (P.value u) }
-    ensures nonzero { P.value result.0 ≢ 0 }
-    ensures least { 2 ^ (count_leading_zeros P.width (P.value u) + 1) ≤ P.value result.0 }
-    ensures most { P.value result.0 < 2 ^ (count_leading_zeros P.width (P.value u) + 2) }
-    ensures falls { count_leading_zeros P.width (P.value u) < count_leading_zeros P.width (P.value result.1) }
-{
-    let zeros = u.zeros();
-    let top = P::one().shifted(zeros + 1);
-    let mut rest = u.shifted(zeros + 1).plus(P::low_terms());
-    let mut low = P::zero();
-    let mut ahead = rest.zeros();
-    while ahead <= zeros {
-        let by = zeros - ahead;
-        rest = rest.plus(u.shifted(by));
-        low = low.plus(P::one().shifted(by));
-        ahead = rest.zeros();
-    }
-    (top.plus(low), rest)
+// An element with its factor: on the way down to the inverse each element is the product of its factor and the one that is inverted.
+#[derive(Clone, Copy)]
+struct Multiple<P> {
+    element: P,
+    factor: P,
 }
 
-// One division on the way down: what is left of `big` below `small`, with its factor. Each is a multiple of one element, by its factor.
-fn reduced<P: Poly>(big: P, over: P, small: P, under: P) -> (P, P)
-    requires descent { Descent P.width (P.value big) (P.value over) (P.value small) (P.value under) }
-    requires more { count_leading_zeros P.width (P.value small) + 1 < P.width }
-    ensures descent { Descent P.width (P.value small) (P.value under) (P.value result.0) (P.value result.1) }
-    ensures product { (a : ℕ) → a < 2 ^ P.width → P.value big ≡ mul P.width P.modulus (P.value over) a → P.value small ≡ mul P.width P.modulus (P.value under) a → P.value result.0 ≡ mul P.width P.modulus (P.value result.1) a }
-{
-    let zeros = small.zeros();
-    let first = zeros - big.zeros();
-    let mut rest = big.plus(small.shifted(first));
-    let mut factor = over.plus(under.shifted(first));
-    let mut ahead = rest.zeros();
-    while ahead <= zeros {
-        let by = zeros - ahead;
-        rest = rest.plus(small.shifted(by));
-        factor = factor.plus(under.shifted(by));
-        ahead = rest.zeros();
+impl<P: Poly> Multiple<P> {
+    // The sum with x^by times the other. Coefficients that pass the width are lost. Called with less than the width.
+    fn plus_moved(self, other: Multiple<P>, by: u32) -> Multiple<P>
+        requires { by < P.width }
+        ensures element { P.value result.element ≡ bit_xor (P.value self.element) (P.value other.element * 2 ^ by % 2 ^ P.width) }
+        ensures factor { P.value result.factor ≡ bit_xor (P.value self.factor) (P.value other.factor * 2 ^ by % 2 ^ P.width) }
+    {
+        Multiple {
+            element: self.element.plus(other.element.shifted(by)),
+            factor: self.factor.plus(other.factor.shifted(by)),
+        }
     }
-    (rest, factor)
+}
+
+// What a division by `small` leaves of `left`: `small` is taken away, moved up so that the highest coefficients meet, until the degree is lower
+// than that of `small`.
+fn remainder<P: Poly>(left: Multiple<P>, small: Multiple<P>) -> Multiple<P>
+    requires divisor { 1 < P.value small.element }
+    requires division { Division P.width (P.value left.element) (P.value left.factor) (P.value small.element) (P.value small.factor) }
+    ensures descent { Descent P.width (P.value small.element) (P.value small.factor) (P.value result.element) (P.value result.factor) }
+    ensures product { (a : ℕ) → a < 2 ^ P.width → P.value left.element ≡ mul P.width P.modulus (P.value left.factor) a → P.value small.element ≡ mul P.width P.modulus (P.value small.factor) a → P.value result.element ≡ mul P.width P.modulus (P.value result.factor) a }
+{
+    let zeros = small.element.zeros();
+    let mut rest = left;
+    while let Some(by) = zeros.checked_sub(rest.element.zeros()) {
+        rest = rest.plus_moved(small, by);
+    }
+    rest
+}
+
+// What the division of the modulus leaves. The divisor has a degree of one or more and the factor one; the modulus' factor is zero.
+fn modulus_divided<P: Poly>(divisor: Multiple<P>) -> Multiple<P>
+    requires divisor { 1 < P.value divisor.element }
+    requires factor { P.value divisor.factor ≡ 1 }
+    ensures descent { Descent P.width (P.value divisor.element) (P.value divisor.factor) (P.value result.element) (P.value result.factor) }
+    ensures product { P.value result.element ≡ mul P.width P.modulus (P.value result.factor) (P.value divisor.element) }
+{
+    let modulus = Multiple {
+        element: P::low_terms(),
+        factor: P::zero(),
+    };
+    remainder(
+        modulus.plus_moved(divisor, divisor.element.zeros() + 1),
+        divisor,
+    )
+}
+
+// What the division of `big` by `small` leaves.
+fn divided<P: Poly>(big: Multiple<P>, small: Multiple<P>) -> Multiple<P>
+    requires divisor { 1 < P.value small.element }
+    requires descent { Descent P.width (P.value big.element) (P.value big.factor) (P.value small.element) (P.value small.factor) }
+    ensures descent { Descent P.width (P.value small.element) (P.value small.factor) (P.value result.element) (P.value result.factor) }
+    ensures product { (a : ℕ) → a < 2 ^ P.width → P.value big.element ≡ mul P.width P.modulus (P.value big.factor) a → P.value small.element ≡ mul P.width P.modulus (P.value small.factor) a → P.value result.element ≡ mul P.width P.modulus (P.value result.factor) a }
+{
+    let by = small.element.zeros() - big.element.zeros();
+    remainder(big.plus_moved(small, by), small)
 }
 
 // The inverse of a, or none where a is zero: divisions from the modulus and a down to one, whose degree falls at each.
 pub fn inverted<P: Poly>(a: P) -> Option<P>
     ensures { MatchOption result (P.value a ≡ 0) (λ b. mul P.width P.modulus (P.value a) (P.value b) ≡ 1) }
 {
-    let places = places_of(a);
-    if places == 0 {
-        return None;
-    }
-    if places == 1 {
+    if degree(a)? == 0 {
         return Some(a);
     }
-    let (quotient, left) = divided(a);
-    let mut big = a;
-    let mut over = P::one();
-    let mut small = left;
-    let mut under = quotient;
-    while places_of(small) > 1 {
-        let (rest, factor) = reduced(big, over, small, under);
+    let mut big = Multiple {
+        element: a,
+        factor: P::one(),
+    };
+    let mut small = modulus_divided(big);
+    while degree(small.element) != Some(0) {
+        let rest = divided(big, small);
         big = small;
-        over = under;
         small = rest;
-        under = factor;
     }
-    Some(under)
+    Some(small.factor)
 }

@@ -29,3 +29,10 @@ degree_lt n v d h g =
       | yes l ↦ l
       | no m ↦ let le : n ≤ d = omega arith in let p : 2 ^ n ≤ 2 ^ d = pow_mono le in absurd (omega (arith, g.0))
     ]
+
+-- the degree zero is that of one alone
+pub degree_zero : (v d : ℕ) → Degree v d → d ≡ 0 → v ≡ 1
+degree_zero v d g e = let h : Degree v 0 = subst (Degree v) e g in omega (arith, h.0, h.1)
+
+pub degree_above : (v d : ℕ) → Degree v d → 1 ≤ d → 1 < v
+degree_above v d g h = let p : 2 ^ 1 ≤ 2 ^ d = pow_mono h in omega (arith, g.0)

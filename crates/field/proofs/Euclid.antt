@@ -3,22 +3,22 @@ use Rattle.std.proofs.Common.{◌≡◌, ℕ, suc, ◌+◌, ◌-◌, ◌*◌, �
 use native.Mathlib.Nat.{div-eq_of_lt, div-eq_of_lt-le}
 use native.Mathlib.Decide.{dec_lt}
 use lib.Pow.{pow-lt, split}
-use lib.Bits.{bit_xor, xor_comm, xor_lt, xor_shr}
+use lib.Bits.{bit_xor, xor_lt, xor_shr}
 use lib.Count.{count_leading_zeros, leading_top, leading_of_zero}
 use Rattle.field.specs.Field.{mul}
 use Rattle.field.specs.Window.{raise}
 use Rattle.field.proofs.Ring as ring
-use Rattle.field.proofs.Divide.{top_cancel, zeros_above, zeros_few}
+use Rattle.field.proofs.Divide.{top_cancel, zeros_above}
 use Rattle.field.proofs.Window.{raise_l}
 
 -- a number keeps its highest bit when a smaller one is added
-pub keeps_top : (k t d : ℕ) → 2 ^ k ≤ t → t < 2 ^ (k + 1) → d < 2 ^ k → (2 ^ k ≤ bit_xor t d) × (bit_xor t d < 2 ^ (k + 1))
-keeps_top k t d lo hi small =
-    let p : 2 ^ (k + 1) ≡ 2 ^ k * 2 = pow-add 2 k 1 in
+pub keeps_top : (k m t d : ℕ) → m ≡ k + 1 → 2 ^ k ≤ t → t < 2 ^ m → d < 2 ^ k → (2 ^ k ≤ bit_xor t d) × (bit_xor t d < 2 ^ m)
+keeps_top k m t d next lo hi small =
+    let p : 2 ^ m ≡ 2 ^ k * 2 = ap (λ (i : ℕ). 2 ^ i) next ∙ pow-add 2 k 1 in
     let q : t / 2 ^ k ≡ 1 = div-eq_of_lt-le (2 ^ k) (omega (arith, one-mul (2 ^ k))) (omega arith) in
     let e : bit_xor t d / 2 ^ k ≡ 1 = xor_shr t d k ∙ ap₂ bit_xor q (div-eq_of_lt small) in
     let s : 1 * 2 ^ k + bit_xor t d % 2 ^ k ≡ bit_xor t d = subst (λ (x : ℕ). x * 2 ^ k + bit_xor t d % 2 ^ k ≡ bit_xor t d) e (split (bit_xor t d) k) in
-    (omega (arith, one-mul (2 ^ k)), xor_lt (k + 1) t d hi (omega arith))
+    (omega (arith, one-mul (2 ^ k)), xor_lt m t d hi (omega arith))
 
 -- a shift by what is missing to the power
 pub shift_lt : (g i j : ℕ) → g < 2 ^ i → g * 2 ^ j < 2 ^ (i + j)
@@ -28,9 +28,9 @@ pub shift_le : (g i j : ℕ) → 2 ^ i ≤ g → 2 ^ (i + j) ≤ g * 2 ^ j
 shift_le g i j h = le_trans (le_of_eq (pow-add 2 i j)) (mul-le-mul_right (2 ^ j) h)
 
 -- the highest bit of u under that of w: nothing is lost, and the sum has more zeros in front than w
-pub under : (n u w z y : ℕ) → 0 < u → u < 2 ^ n → w < 2 ^ n → z ≡ count_leading_zeros n u → y ≡ count_leading_zeros n w → y ≤ z
-    → (u * 2 ^ (z - y) < 2 ^ n) × (y < count_leading_zeros n (bit_xor w (u * 2 ^ (z - y))))
-under n u w z y pos hu hw ez ey le =
+pub under : (n u w j : ℕ) → 0 < u → u < 2 ^ n → w < 2 ^ n → count_leading_zeros n w ≤ count_leading_zeros n u → j ≡ count_leading_zeros n u - count_leading_zeros n w
+    → (u * 2 ^ j < 2 ^ n) × (count_leading_zeros n w < count_leading_zeros n (bit_xor w (u * 2 ^ j)))
+under n u w j pos hu hw le ej =
     let t = leading_top n u pos hu in
     let nz : 0 < w = elim (dec_lt 0 w) [
       | yes l ↦ l
@@ -38,7 +38,6 @@ under n u w z y pos hu hw ez ey le =
           let zz : count_leading_zeros n w ≡ n = ap (count_leading_zeros n) e ∙ leading_of_zero n in omega (arith, t.1)
     ] in
     let s = leading_top n w nz hw in
-    let j : ℕ = z - y in
     let k : t.0 + j ≡ s.0 = omega (arith, t.1, s.1) in
     let k' : suc t.0 + j ≡ suc s.0 = omega arith in
     let lo : 2 ^ s.0 ≤ u * 2 ^ j = subst (λ (i : ℕ). 2 ^ i ≤ u * 2 ^ j) k (shift_le u t.0 j t.2) in
@@ -47,49 +46,6 @@ under n u w z y pos hu hw ez ey le =
       lt_of_lt_of_le hi (pow_mono sn),
       omega (arith, zeros_above n s.0 (bit_xor w (u * 2 ^ j)) (top_cancel s.0 w (u * 2 ^ j) s.2 s.3 lo hi) (omega arith), s.1),
     )
-
--- the sizes before the loop of a division and after each turn of it: s and its factor u are taken from w and t, with y zeros in front of w
-module _ (n w s u z y s' u' w' k : ℕ) (hs : s < 2 ^ n) (hw : w < 2 ^ n) (ez : z ≡ count_leading_zeros n s) (ey : y ≡ count_leading_zeros n w) (room : z + 1 < n)
-    (es : s' ≡ s * 2 ^ (z - y) % 2 ^ n) (eu : u' ≡ u * 2 ^ (z - y) % 2 ^ n) (ew : w' ≡ bit_xor w s') (ek : k ≡ count_leading_zeros n w') (le : y ≤ z) where
-  drop : (s * 2 ^ (z - y) < 2 ^ n) × (y < k)
-  drop =
-      let r : count_leading_zeros n s + 1 < n = omega arith in
-      let one : 1 ≤ n = omega arith in
-      let p : 1 < s = zeros_few n s one r in
-      let d = under n s w z y (omega arith) hs hw ez ey le in
-      let e : w' ≡ bit_xor w (s * 2 ^ (z - y)) = ew ∙ ap (bit_xor w) (es ∙ mod-eq_of_lt d.0) in
-      (d.0, subst (λ (x : ℕ). y < x) (sym (ek ∙ ap (count_leading_zeros n) e)) d.1)
-
-  pub first_sizes : (o t : ℕ) → o < 2 ^ (y + 1) → 2 ^ (y + 1) ≤ u → u < 2 ^ (y + 2) → t ≡ bit_xor o u'
-      → (u < 2 ^ (k + 1)) × (2 ^ (z + 1) ≤ t) × (t < 2 ^ (z + 1 + 1)) × (y < k) × (s * 2 ^ (z - y) < 2 ^ n) × (u * 2 ^ (z - y) < 2 ^ n)
-  first_sizes o t ho lo hi et =
-      let d = drop in
-      let yk : y < k = d.1 in
-      let i₁ : y + 2 ≤ k + 1 = omega arith in
-      let i₂ : y + 1 + (z - y) ≡ z + 1 = omega arith in
-      let i₃ : y + 2 + (z - y) ≡ z + 1 + 1 = omega arith in
-      let i₄ : y + 1 ≤ z + 1 = omega arith in
-      let i₅ : z + 1 + 1 ≤ n = omega arith in
-      let a : 2 ^ (z + 1) ≤ u * 2 ^ (z - y) = subst (λ (x : ℕ). 2 ^ x ≤ u * 2 ^ (z - y)) i₂ (shift_le u (y + 1) (z - y) lo) in
-      let b : u * 2 ^ (z - y) < 2 ^ (z + 1 + 1) = subst (λ (x : ℕ). u * 2 ^ (z - y) < 2 ^ x) i₃ (shift_lt u (y + 2) (z - y) hi) in
-      let c : u * 2 ^ (z - y) < 2 ^ n = lt_of_lt_of_le b (pow_mono i₅) in
-      let m = keeps_top (z + 1) (u * 2 ^ (z - y)) o a b (lt_of_lt_of_le ho (pow_mono i₄)) in
-      let e : t ≡ bit_xor (u * 2 ^ (z - y)) o = et ∙ ap (bit_xor o) (eu ∙ mod-eq_of_lt c) ∙ xor_comm o (u * 2 ^ (z - y)) in
-      (lt_of_lt_of_le hi (pow_mono i₁), subst (λ (x : ℕ). 2 ^ (z + 1) ≤ x) (sym e) m.0, subst (λ (x : ℕ). x < 2 ^ (z + 1 + 1)) (sym e) m.1, yk, d.0, c)
-
-  pub again_sizes : (t t' : ℕ) → u < 2 ^ (y + 1) → 2 ^ (z + 1) ≤ t → t < 2 ^ (z + 1 + 1) → t' ≡ bit_xor t u'
-      → (u < 2 ^ (k + 1)) × (2 ^ (z + 1) ≤ t') × (t' < 2 ^ (z + 1 + 1)) × (y < k) × (s * 2 ^ (z - y) < 2 ^ n) × (u * 2 ^ (z - y) < 2 ^ n)
-  again_sizes t t' hi lo top et =
-      let d = drop in
-      let yk : y < k = d.1 in
-      let i₁ : y + 1 ≤ k + 1 = omega arith in
-      let i₂ : y + 1 + (z - y) ≡ z + 1 = omega arith in
-      let i₃ : z + 1 ≤ n = omega arith in
-      let b : u * 2 ^ (z - y) < 2 ^ (z + 1) = subst (λ (x : ℕ). u * 2 ^ (z - y) < 2 ^ x) i₂ (shift_lt u (y + 1) (z - y) hi) in
-      let c : u * 2 ^ (z - y) < 2 ^ n = lt_of_lt_of_le b (pow_mono i₃) in
-      let m = keeps_top (z + 1) t (u * 2 ^ (z - y)) lo top b in
-      let e : t' ≡ bit_xor t (u * 2 ^ (z - y)) = et ∙ ap (bit_xor t) (eu ∙ mod-eq_of_lt c) in
-      (lt_of_lt_of_le hi (pow_mono i₁), subst (λ (x : ℕ). 2 ^ (z + 1) ≤ x) (sym e) m.0, subst (λ (x : ℕ). x < 2 ^ (z + 1 + 1)) (sym e) m.1, yk, d.0, c)
 
 module _ (n f : ℕ) (fits : f < 2 ^ n) (wide : 1 < n) where
   one_lt : 1 < 2 ^ n
@@ -103,11 +59,10 @@ module _ (n f : ℕ) (fits : f < 2 ^ n) (wide : 1 < n) where
       ∙ ap (raise n f j) (ring.mul_one_r n f fits u h ∙ e)
       ∙ sym (raise_l n f fits wide j g a hg ha)
 
-  -- one step, over whatever holds the numbers
-  pub taken : (u g w t a j u' g' w' t' : ℕ) → a < 2 ^ n → u < 2 ^ n → u * 2 ^ j < 2 ^ n → g * 2 ^ j < 2 ^ n
-      → u' ≡ u * 2 ^ j % 2 ^ n → g' ≡ g * 2 ^ j % 2 ^ n → w' ≡ bit_xor w u' → t' ≡ bit_xor t g'
-      → u ≡ mul n f g a → w ≡ mul n f t a → w' ≡ mul n f t' a
-  taken u g w t a j u' g' w' t' ha h hu hg eu eg ew et e d =
-      ew ∙ ap₂ bit_xor d (eu ∙ mod-eq_of_lt hu ∙ shifted_both u g a j ha hu hg h e)
+  -- one step: the sums with what is moved up are a multiple and its factor again
+  pub taken : (u g w t a j w' t' : ℕ) → a < 2 ^ n → u < 2 ^ n → u * 2 ^ j < 2 ^ n → g * 2 ^ j < 2 ^ n
+      → w' ≡ bit_xor w (u * 2 ^ j % 2 ^ n) → t' ≡ bit_xor t (g * 2 ^ j % 2 ^ n) → u ≡ mul n f g a → w ≡ mul n f t a → w' ≡ mul n f t' a
+  taken u g w t a j w' t' ha h hu hg ew et e d =
+      ew ∙ ap₂ bit_xor d (mod-eq_of_lt hu ∙ shifted_both u g a j ha hu hg h e)
       ∙ sym (ring.mul_linear_l n f fits a t (g * 2 ^ j))
-      ∙ ap (λ (x : ℕ). mul n f x a) (sym (et ∙ ap (bit_xor t) (eg ∙ mod-eq_of_lt hg)))
+      ∙ ap (λ (x : ℕ). mul n f x a) (sym (et ∙ ap (bit_xor t) (mod-eq_of_lt hg)))

@@ -63,5 +63,3 @@ combine_map φ h [] v = linear_zero φ h
 combine_map φ h (t ∷ ts) v =
     h (v % 2 * t) (combine ts (v / 2))
     ∙ ap₂ bit_xor (bit_linear φ h (v % 2) t (bit_lt v)) (combine_map φ h ts (v / 2))
-
--- touched

@@ -50,7 +50,7 @@ loop-i-preserved g c =
     let hi : i < 8 = c.loop-i-test.true in
     let w : 2 ^ 8 ≤ 2 ^ n = (let h : 8 < n = p.field.broad in let k : 8 ≤ n = omega arith in pow_mono k) in
     let room : i * 2 < 2 ^ n = omega arith in
-    let at : p.value c.entry-half.result ≡ mul n f i b = ap p.value c.entry-half.ensures ∙ l.invariant.1 i c.entry-half.result (omega arith) in
+    let at = l.invariant.1 i c.index-all-i.result (omega arith) in
     let eu : p.value c.doubled-even.result ≡ times_x n f (mul n f i b) = c.doubled-even.ensures ∙ ap (times_x n f) at in
     let ev : p.value c.plus.result ≡ bit_xor (times_x n f (mul n f i b)) b = c.plus.ensures ∙ ap (λ (t : ℕ). bit_xor t b) eu in (
       length-set (set l.all (2 * i) c.doubled-even.result) (2 * i + 1) c.plus.result ∙ length-set l.all (2 * i) c.doubled-even.result ∙ l.invariant.0,

@@ -1,79 +1,66 @@
 -- What is left to show of `inverted`.
-use Rattle.std.proofs.Common.{◌≡◌, ℕ, ◌+◌, ◌^◌, ◌<◌, ◌≤◌, ◌≢◌, sym, refl, ap, ◌∙◌, subst, arith, pow_pos}
-use lib.Count.{count_leading_zeros, leading_of_zero}
-use lib.Pow.{pow-lt}
+use Rattle.std.proofs.Common.{◌≡◌, ℕ, zero, suc, ◌+◌, ◌<◌, ◌≢◌, true, false, not, Some, None, Option, eqb, sym, refl, ap, ◌∙◌, arith, pow_pos, MatchOption}
+use Rattle.std.specs.Option.{option_eq}
+use Rattle.std.proofs.lemmas.Bool.Decides.{nat_tests}
+use lib.Count.{count_leading_zeros}
+use Rattle.field.specs.Degree.{Degree}
 use Rattle.field.specs.Field.{mul}
-use Rattle.field.specs.Degree.{places}
-use Rattle.field.proofs.Degree.{no_places}
+use Rattle.field.proofs.Degree.{degree_zero, degree_above}
 use Rattle.field.proofs.Ring as ring
-use Rattle.field.proofs.Divide as divide
+use Rattle.arithmetic.proofs.poly.inverted.Given as given
 use Rattle.arithmetic.proofs.poly.inverted.Goals as goal
+use Rattle.arithmetic.proofs.poly.inverted.Goals.{At-loop-big}
 
--- an element that takes up a place is not zero
-nonzero : (n v p : ℕ) → p ≡ places n v → p ≢ 0 → v ≢ 0
-nonzero n v p e ne z = ne (omega (arith, e, ap (count_leading_zeros n) z, leading_of_zero n))
+-- what the loop's test says of an element that is not zero
+ended : (v : ℕ) (r : Option ℕ) → MatchOption r (v ≡ 0) (Degree v) → v ≢ 0 → false ≡ not (option_eq eqb r (Some 0)) → v ≡ 1
+ended v None h ne e = absurd (ne h)
+ended v (Some zero) h ne e = degree_zero v 0 h refl
+ended v (Some (suc d)) h ne e = grind (arith, nat_tests)
 
-pub returns-then-places-eq0 : goal.returns-then-places-eq0
-returns-then-places-eq0 g c =
+goes_on : (v : ℕ) (r : Option ℕ) → MatchOption r (v ≡ 0) (Degree v) → v ≢ 0 → true ≡ not (option_eq eqb r (Some 0)) → 1 < v
+goes_on v None h ne e = absurd (ne h)
+goes_on v (Some zero) h ne e = absurd cc
+goes_on v (Some (suc d)) h ne e = degree_above v (suc d) h (omega arith)
+
+-- what is left of a division is not zero: the inverse's element and the factor are not
+nonzero : (g : given.Over) (c : At-loop-big g) → g.P.Poly.value c.loop-big.small.element ≢ 0
+nonzero g c z =
     let p = g.P.Poly in
-    no_places p.width (p.value c.args.a) (count_leading_zeros p.width (p.value c.args.a)) (p.numbers.below c.args.a) refl
-    (omega (arith, c.places_of-places.ensures, c.if-places-eq0.true))
+    let l = c.loop-big in
+    let a : ℕ = p.value c.args.a in
+    let under : ℕ = p.value l.small.factor in
+    let ne : a ≢ 0 = λ z. let h = c.in_ok-degree.ensures.0 in omega (arith, pow_pos c.in_ok-degree.field-0) in
+    let un : under ≢ 0 = λ z. let h = l.invariant.0.under_le in omega (arith, pow_pos (count_leading_zeros p.width (p.value l.big.element) + 1)) in
+    p.field.laws.nonzero under a (p.numbers.below l.small.factor) (p.numbers.below c.args.a) un ne (sym l.invariant.2 ∙ z)
 
-pub returns-then-places-eq1 : goal.returns-then-places-eq1
-returns-then-places-eq1 g c =
+pub returns-then-branch-eq0 : goal.returns-then-branch-eq0
+returns-then-branch-eq0 g c =
     let p = g.P.Poly in
     let a : ℕ = p.value c.args.a in
-    let h : a < 2 ^ p.width = p.numbers.below c.args.a in
-    let ne : a ≢ 0 = nonzero p.width a c.places_of-places.result c.places_of-places.ensures c.if-places-eq0.false in
-    let z : p.width ≤ count_leading_zeros p.width a + 1 = omega (arith, c.places_of-places.ensures, c.if-places-eq1.true) in
-    let e : a ≡ 1 = divide.zeros_one p.width a h ne z in
-    ap (mul p.width p.modulus a) e ∙ ring.mul_one_r p.width p.modulus p.field.fits a h ∙ e
+    let e : a ≡ 1 = degree_zero a c.in_ok-degree.field-0 c.in_ok-degree.ensures c.if-branch-eq0.true in
+    ap (mul p.width p.modulus a) e ∙ ring.mul_one_r p.width p.modulus p.field.fits a (p.numbers.below c.args.a) ∙ e
 
-pub divided-quotient-requires : goal.divided-quotient-requires
-divided-quotient-requires g c =
-    let p = g.P.Poly in
-    let a : ℕ = p.value c.args.a in
-    let w : 1 < p.width = p.field.wide in
-    let m : count_leading_zeros p.width a + 1 < p.width = omega (arith, c.places_of-places.ensures, c.if-places-eq0.false, c.if-places-eq1.false) in
-    divide.zeros_few p.width a (omega arith) m
+pub modulus_divided-small-requires-clause-divisor : goal.modulus_divided-small-requires-clause-divisor
+modulus_divided-small-requires-clause-divisor g c = degree_above (g.P.Poly.value c.args.a) c.in_ok-degree.field-0 c.in_ok-degree.ensures (omega (arith, c.if-branch-eq0.false))
 
 pub loop-big-init : goal.loop-big-init
 loop-big-init g c =
     let p = g.P.Poly in
-    let a : ℕ = p.value c.args.a in
-    let q : ℕ = p.value c.divided-quotient.result.0 in
-    let h : a < 2 ^ p.width = p.numbers.below c.args.a in
-    let d = c.divided-quotient.ensures in
-    let ne : a ≢ 0 = nonzero p.width a c.places_of-places.result c.places_of-places.ensures c.if-places-eq0.false in
-    let one : 1 < 2 ^ (count_leading_zeros p.width a + 1) = (let k : 0 < count_leading_zeros p.width a + 1 = omega arith in pow-lt k) in (
-      record { falls = d.falls; over_lt = subst (λ (x : ℕ). x < 2 ^ (count_leading_zeros p.width a + 1)) (sym c.one-over.ensures) one; under_le = d.least; under_lt = d.most },
-      sym (ap (λ (o : ℕ). mul p.width p.modulus o a) c.one-over.ensures ∙ ring.mul_one_l p.width p.modulus p.field.fits p.field.wide a h),
-      d.product,
-      λ z. p.field.laws.nonzero q a (p.numbers.below c.divided-quotient.result.0) h d.nonzero ne (sym d.product ∙ z),
+    let a : ℕ = p.value c.args.a in (
+      c.modulus_divided-small.ensures.descent,
+      sym (ap (λ (o : ℕ). mul p.width p.modulus o a) c.one.ensures ∙ ring.mul_one_l p.width p.modulus p.field.fits p.field.wide a (p.numbers.below c.args.a)),
+      c.modulus_divided-small.ensures.product,
     )
 
-pub reduced-rest-requires : goal.reduced-rest-requires
-reduced-rest-requires g c = record { descent = c.loop-big.invariant.0; more = omega (arith, c.places_of.ensures, c.loop-big-test.true) }
-
-pub loop-big-preserved : goal.loop-big-preserved
-loop-big-preserved g c =
-    let p = g.P.Poly in
-    let l = c.loop-big in
-    let a : ℕ = p.value c.args.a in
-    let h : a < 2 ^ p.width = p.numbers.below c.args.a in
-    let r = c.reduced-rest in
-    let t : ℕ = p.value r.result.1 in
-    let ne : a ≢ 0 = nonzero p.width a c.places_of-places.result c.places_of-places.ensures c.if-places-eq0.false in
-    let e = r.ensures.product a h l.invariant.1 l.invariant.2 in
-    let tn : t ≢ 0 = (λ z. let k = r.ensures.descent.under_le in omega (arith, k, z, pow_pos (count_leading_zeros p.width (p.value l.small) + 1))) in
-    (r.ensures.descent, l.invariant.2, e, λ z. p.field.laws.nonzero t a (p.numbers.below r.result.1) h tn ne (sym e ∙ z))
+pub divided-rest-requires-clause-divisor : goal.divided-rest-requires-clause-divisor
+divided-rest-requires-clause-divisor g c =
+    goes_on (g.P.Poly.value c.loop-big.small.element) c.degree-in-loop-big.result c.degree-in-loop-big.ensures
+    (nonzero g (goal.at.divided-rest-requires-clause-divisor g c).At-loop-big) c.loop-big-test.ensures
 
 pub returns : goal.returns
 returns g c =
     let p = g.P.Poly in
     let l = c.loop-big in
-    let a : ℕ = p.value c.args.a in
-    let z : p.width ≤ count_leading_zeros p.width (p.value l.small) + 1 = omega (arith, c.places_of.ensures, c.loop-big-test.false) in
-    ring.mul_comm p.width p.modulus p.field.fits p.field.wide a (p.value l.under) (p.numbers.below c.args.a) (p.numbers.below l.under)
+    ring.mul_comm p.width p.modulus p.field.fits p.field.wide (p.value c.args.a) (p.value l.small.factor) (p.numbers.below c.args.a) (p.numbers.below l.small.factor)
     ∙ sym l.invariant.2
-    ∙ divide.zeros_one p.width (p.value l.small) (p.numbers.below l.small) l.invariant.3 z
+    ∙ ended (p.value l.small.element) c.degree-in-loop-big.result c.degree-in-loop-big.ensures (nonzero g (goal.at.returns g c).At-loop-big) c.loop-big-test.ensures
