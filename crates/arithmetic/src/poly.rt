@@ -71,69 +71,76 @@ pub fn degree<P: Poly>(a: P) -> Option<u32>
     (P::bits() - a.zeros()).checked_sub(1)
 }
 
-// An element with its factor: on the way down to the inverse each element is the product of its factor and the one that is inverted.
-#[derive(Clone, Copy)]
-struct Multiple<P> {
+// An element with its factor: on the way down to the inverse each element is the product of its factor and the one that is inverted. The zeros
+// in front of the element, by which degrees are compared, are counted once.
+#[derive(Drop)]
+struct Multiple<P: Poly> {
     element: P,
     factor: P,
+    zeros: u32,
+    ghost counted: { zeros ≡ count_leading_zeros P.width (P.value element) },
 }
 
 impl<P: Poly> Multiple<P> {
-    // The sum with x^by times the other. Coefficients that pass the width are lost. Called with less than the width.
-    fn plus_moved(self, other: Multiple<P>, by: u32) -> Multiple<P>
-        requires { by < P.width }
-        ensures element { P.value result.element ≡ bit_xor (P.value self.element) (P.value other.element * 2 ^ by % 2 ^ P.width) }
-        ensures factor { P.value result.factor ≡ bit_xor (P.value self.factor) (P.value other.factor * 2 ^ by % 2 ^ P.width) }
+    fn new(element: P, factor: P) -> Multiple<P>
+        ensures element { result.element ≡ element }
+        ensures factor { result.factor ≡ factor }
     {
+        let zeros = element.zeros();
         Multiple {
-            element: self.element.plus(other.element.shifted(by)),
-            factor: self.factor.plus(other.factor.shifted(by)),
+            element,
+            factor,
+            zeros,
         }
+    }
+
+    // The sum with x^by times the other. Coefficients that pass the width are lost. Called with less than the width.
+    fn plus_moved(&self, other: &Multiple<P>, by: u32) -> Multiple<P>
+        requires { by < P.width }
+        ensures element { P.value result.element ≡ bit_xor (P.value self.now.element) (P.value other.now.element * 2 ^ by % 2 ^ P.width) }
+        ensures factor { P.value result.factor ≡ bit_xor (P.value self.now.factor) (P.value other.now.factor * 2 ^ by % 2 ^ P.width) }
+    {
+        Multiple::new(
+            self.element.plus(other.element.shifted(by)),
+            self.factor.plus(other.factor.shifted(by)),
+        )
     }
 }
 
 // What a division by `small` leaves of `left`: `small` is taken away, moved up so that the highest coefficients meet, until the degree is lower
 // than that of `small`.
-fn remainder<P: Poly>(left: Multiple<P>, small: Multiple<P>) -> Multiple<P>
-    requires divisor { 1 < P.value small.element }
-    requires division { Division P.width (P.value left.element) (P.value left.factor) (P.value small.element) (P.value small.factor) }
-    ensures descent { Descent P.width (P.value small.element) (P.value small.factor) (P.value result.element) (P.value result.factor) }
-    ensures product { (a : ℕ) → a < 2 ^ P.width → P.value left.element ≡ mul P.width P.modulus (P.value left.factor) a → P.value small.element ≡ mul P.width P.modulus (P.value small.factor) a → P.value result.element ≡ mul P.width P.modulus (P.value result.factor) a }
+fn remainder<P: Poly>(left: Multiple<P>, small: &Multiple<P>) -> Multiple<P>
+    requires divisor { 1 < P.value small.now.element }
+    requires division { Division P.width (P.value left.element) (P.value left.factor) (P.value small.now.element) (P.value small.now.factor) }
+    ensures descent { Descent P.width (P.value small.now.element) (P.value small.now.factor) (P.value result.element) (P.value result.factor) }
+    ensures product { (a : ℕ) → a < 2 ^ P.width → P.value left.element ≡ mul P.width P.modulus (P.value left.factor) a → P.value small.now.element ≡ mul P.width P.modulus (P.value small.now.factor) a → P.value result.element ≡ mul P.width P.modulus (P.value result.factor) a }
 {
-    let zeros = small.element.zeros();
     let mut rest = left;
-    while let Some(by) = zeros.checked_sub(rest.element.zeros()) {
+    while let Some(by) = small.zeros.checked_sub(rest.zeros) {
         rest = rest.plus_moved(small, by);
     }
     rest
 }
 
 // What the division of the modulus leaves. The divisor has a degree of one or more and the factor one; the modulus' factor is zero.
-fn modulus_divided<P: Poly>(divisor: Multiple<P>) -> Multiple<P>
-    requires divisor { 1 < P.value divisor.element }
-    requires factor { P.value divisor.factor ≡ 1 }
-    ensures descent { Descent P.width (P.value divisor.element) (P.value divisor.factor) (P.value result.element) (P.value result.factor) }
-    ensures product { P.value result.element ≡ mul P.width P.modulus (P.value result.factor) (P.value divisor.element) }
+fn modulus_divided<P: Poly>(divisor: &Multiple<P>) -> Multiple<P>
+    requires divisor { 1 < P.value divisor.now.element }
+    requires factor { P.value divisor.now.factor ≡ 1 }
+    ensures descent { Descent P.width (P.value divisor.now.element) (P.value divisor.now.factor) (P.value result.element) (P.value result.factor) }
+    ensures product { P.value result.element ≡ mul P.width P.modulus (P.value result.factor) (P.value divisor.now.element) }
 {
-    let modulus = Multiple {
-        element: P::low_terms(),
-        factor: P::zero(),
-    };
-    remainder(
-        modulus.plus_moved(divisor, divisor.element.zeros() + 1),
-        divisor,
-    )
+    let modulus = Multiple::new(P::low_terms(), P::zero());
+    remainder(modulus.plus_moved(divisor, divisor.zeros + 1), divisor)
 }
 
 // What the division of `big` by `small` leaves.
-fn divided<P: Poly>(big: Multiple<P>, small: Multiple<P>) -> Multiple<P>
-    requires divisor { 1 < P.value small.element }
-    requires descent { Descent P.width (P.value big.element) (P.value big.factor) (P.value small.element) (P.value small.factor) }
-    ensures descent { Descent P.width (P.value small.element) (P.value small.factor) (P.value result.element) (P.value result.factor) }
-    ensures product { (a : ℕ) → a < 2 ^ P.width → P.value big.element ≡ mul P.width P.modulus (P.value big.factor) a → P.value small.element ≡ mul P.width P.modulus (P.value small.factor) a → P.value result.element ≡ mul P.width P.modulus (P.value result.factor) a }
+fn divided<P: Poly>(big: &Multiple<P>, small: &Multiple<P>) -> Multiple<P>
+    requires divisor { 1 < P.value small.now.element }
+    requires descent { Descent P.width (P.value big.now.element) (P.value big.now.factor) (P.value small.now.element) (P.value small.now.factor) }
+    ensures descent { Descent P.width (P.value small.now.element) (P.value small.now.factor) (P.value result.element) (P.value result.factor) }
+    ensures product { (a : ℕ) → a < 2 ^ P.width → P.value big.now.element ≡ mul P.width P.modulus (P.value big.now.factor) a → P.value small.now.element ≡ mul P.width P.modulus (P.value small.now.factor) a → P.value result.element ≡ mul P.width P.modulus (P.value result.factor) a }
 {
-    let by = small.element.zeros() - big.element.zeros();
-    remainder(big.plus_moved(small, by), small)
+    remainder(big.plus_moved(small, small.zeros - big.zeros), small)
 }
 
 // The inverse of a, or none where a is zero: divisions from the modulus and a down to one, whose degree falls at each.
@@ -143,13 +150,10 @@ pub fn inverted<P: Poly>(a: P) -> Option<P>
     if degree(a)? == 0 {
         return Some(a);
     }
-    let mut big = Multiple {
-        element: a,
-        factor: P::one(),
-    };
-    let mut small = modulus_divided(big);
+    let mut big = Multiple::new(a, P::one());
+    let mut small = modulus_divided(&big);
     while degree(small.element) != Some(0) {
-        let rest = divided(big, small);
+        let rest = divided(&big, &small);
         big = small;
         small = rest;
     }

@@ -1,5 +1,5 @@
 -- What is left to show of `inverted`.
-use Rattle.std.proofs.Common.{◌≡◌, ℕ, zero, suc, ◌+◌, ◌<◌, ◌≢◌, true, false, not, Some, None, Option, eqb, sym, refl, ap, ◌∙◌, arith, pow_pos, MatchOption}
+use Rattle.std.proofs.Common.{◌≡◌, ℕ, zero, suc, ◌+◌, ◌<◌, ◌≢◌, true, false, not, Some, None, Option, eqb, sym, refl, ap, ◌∙◌, subst, arith, pow_pos, MatchOption}
 use Rattle.std.specs.Option.{option_eq}
 use Rattle.std.proofs.lemmas.Bool.Decides.{nat_tests}
 use lib.Count.{count_leading_zeros}
@@ -41,15 +41,18 @@ returns-then-branch-eq0 g c =
     ap (mul p.width p.modulus a) e ∙ ring.mul_one_r p.width p.modulus p.field.fits a (p.numbers.below c.args.a) ∙ e
 
 pub modulus_divided-small-requires-clause-divisor : goal.modulus_divided-small-requires-clause-divisor
-modulus_divided-small-requires-clause-divisor g c = degree_above (g.P.Poly.value c.args.a) c.in_ok-degree.field-0 c.in_ok-degree.ensures (omega (arith, c.if-branch-eq0.false))
+modulus_divided-small-requires-clause-divisor g c =
+    let h : 1 < g.P.Poly.value c.args.a = degree_above (g.P.Poly.value c.args.a) c.in_ok-degree.field-0 c.in_ok-degree.ensures (omega (arith, c.if-branch-eq0.false)) in
+    subst (λ (e : g.row.P.Denot). 1 < g.P.Poly.value e) (sym c.new-big.ensures.element) h
 
 pub loop-big-init : goal.loop-big-init
 loop-big-init g c =
     let p = g.P.Poly in
-    let a : ℕ = p.value c.args.a in (
+    let a : ℕ = p.value c.args.a in
+    let e : p.value c.new-big.result.element ≡ a = ap p.value c.new-big.ensures.element in (
       c.modulus_divided-small.ensures.descent,
-      sym (ap (λ (o : ℕ). mul p.width p.modulus o a) c.one.ensures ∙ ring.mul_one_l p.width p.modulus p.field.fits p.field.wide a (p.numbers.below c.args.a)),
-      c.modulus_divided-small.ensures.product,
+      e ∙ sym (ap (λ (o : ℕ). mul p.width p.modulus o a) (ap p.value c.new-big.ensures.factor ∙ c.one.ensures) ∙ ring.mul_one_l p.width p.modulus p.field.fits p.field.wide a (p.numbers.below c.args.a)),
+      c.modulus_divided-small.ensures.product ∙ ap (mul p.width p.modulus (p.value c.modulus_divided-small.result.factor)) e,
     )
 
 pub divided-rest-requires-clause-divisor : goal.divided-rest-requires-clause-divisor
