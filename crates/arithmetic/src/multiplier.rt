@@ -12,6 +12,7 @@ fn multiples<P: Poly>(b: P) -> [P; 16]
 {
     let mut all = [P::zero(); 16];
     all[1] = b;
+    // Kept: a loop by number, since two entries are made from the one at half their number: an iterator that writes entries can't read that one.
     for i in 1..8usize {
         let even = all[i].doubled();
         all[2 * i] = even;

@@ -21,12 +21,16 @@ pub trait Poly: Copy {
     ghost numbers: { Numbers width value };
 
     // The width in bits.
+    // Kept: a function, since a constant would take a ghost member beside it in each kind, which says the width once more.
     fn bits() -> u32
         ensures { result ≡ width };
 
     // The width in bytes.
     fn bytes() -> u32
-        ensures { result * 8 ≡ width };
+        ensures { result * 8 ≡ width }
+    {
+        Self::bits() / 8
+    }
 
     fn zero() -> Self
         ensures { value result ≡ 0 };

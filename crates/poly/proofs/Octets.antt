@@ -1,52 +1,42 @@
--- The bytes of the two kinds, written out.
-use mathlib.Core.Path.{◌≡◌}
-use mathlib.Core.List.{List, [], ◌∷◌}
-use Prim.Native.Nat.{ℕ, ◌+◌, ◌*◌, ◌/◌, ◌%◌}
-use native.Mathlib.Nat.{div-one}
-use native.Mathlib.Omega.{arith}
-use lib.ListN.{length, get_or}
+-- The bytes of a number, the highest first, as the library writes and reads them.
+use Rattle.std.proofs.Common.{◌≡◌, ℕ, zero, suc, ◌+◌, ◌-◌, ◌*◌, ◌/◌, ◌%◌, ◌^◌, List, [], ◌∷◌, length, get_or, sym, refl, ap, ◌∙◌, ap₂, add_assoc, pow-suc, div-one, arith, pow-add}
+use Rattle.std.specs.Int.{byte_at, byte_worth, bytes_high_first, sum_through}
 use Rattle.field.specs.Bytes.{number, bytes}
 
-pub number_eight : (bs : List ℕ) → length bs ≡ 8
-    → get_or bs 0 0 * 72057594037927936 + get_or bs 1 0 * 281474976710656 + get_or bs 2 0 * 1099511627776 + get_or bs 3 0 * 4294967296 + get_or bs 4 0 * 16777216 + get_or bs 5 0 * 65536 + get_or bs 6 0 * 256 + get_or bs 7 0 ≡ number bs
-unfolding number
-number_eight [] e = absurd (omega arith)
-number_eight (v0 ∷ []) e = absurd (omega arith)
-number_eight (v0 ∷ v1 ∷ []) e = absurd (omega arith)
-number_eight (v0 ∷ v1 ∷ v2 ∷ []) e = absurd (omega arith)
-number_eight (v0 ∷ v1 ∷ v2 ∷ v3 ∷ []) e = absurd (omega arith)
-number_eight (v0 ∷ v1 ∷ v2 ∷ v3 ∷ v4 ∷ []) e = absurd (omega arith)
-number_eight (v0 ∷ v1 ∷ v2 ∷ v3 ∷ v4 ∷ v5 ∷ []) e = absurd (omega arith)
-number_eight (v0 ∷ v1 ∷ v2 ∷ v3 ∷ v4 ∷ v5 ∷ v6 ∷ []) e = absurd (omega arith)
-number_eight (v0 ∷ v1 ∷ v2 ∷ v3 ∷ v4 ∷ v5 ∷ v6 ∷ v7 ∷ []) e = omega arith
-number_eight (v0 ∷ v1 ∷ v2 ∷ v3 ∷ v4 ∷ v5 ∷ v6 ∷ v7 ∷ v8 ∷ vs) e = absurd (omega arith)
+power : (k : ℕ) → 256 ^ k ≡ 2 ^ (8 * k)
+power zero = refl
+power (suc k) =
+    let e : 8 * k + 8 ≡ 8 * suc k = omega arith in
+    pow-suc 256 k ∙ ap (λ t. t * 256) (power k) ∙ sym (pow-add 2 (8 * k) 8) ∙ ap (λ t. 2 ^ t) e
 
-pub bytes_eight : (v : ℕ) → (v / 72057594037927936 % 256) ∷ (v / 281474976710656 % 256) ∷ (v / 1099511627776 % 256) ∷ (v / 4294967296 % 256) ∷ (v / 16777216 % 256) ∷ (v / 65536 % 256) ∷ (v / 256 % 256) ∷ (v % 256) ∷ [] ≡ bytes 8 v
+pub bytes_written : (k v : ℕ) → bytes_high_first k v ≡ bytes k v
 unfolding bytes
-bytes_eight v = rw (div-one v)
+bytes_written zero v = refl
+bytes_written (suc k) v = ap₂ (λ b bs. b ∷ bs) (at k) (bytes_written k v)
+  where
+    at : (i : ℕ) → byte_at i v ≡ v / 2 ^ (8 * i) % 256
+    at zero = ap (λ t. t % 256) (sym (div-one v))
+    at (suc i) = ap (λ t. v / t % 256) (power (suc i))
 
-pub number_sixteen : (bs : List ℕ) → length bs ≡ 16
-    → get_or bs 0 0 * 1329227995784915872903807060280344576 + get_or bs 1 0 * 5192296858534827628530496329220096 + get_or bs 2 0 * 20282409603651670423947251286016 + get_or bs 3 0 * 79228162514264337593543950336 + get_or bs 4 0 * 309485009821345068724781056 + get_or bs 5 0 * 1208925819614629174706176 + get_or bs 6 0 * 4722366482869645213696 + get_or bs 7 0 * 18446744073709551616 + get_or bs 8 0 * 72057594037927936 + get_or bs 9 0 * 281474976710656 + get_or bs 10 0 * 1099511627776 + get_or bs 11 0 * 4294967296 + get_or bs 12 0 * 16777216 + get_or bs 13 0 * 65536 + get_or bs 14 0 * 256 + get_or bs 15 0 ≡ number bs
+-- a sum without its first term
+tail : (f : ℕ → ℕ) (k : ℕ) → sum_through f (suc k) ≡ f 0 + sum_through (λ i. f (suc i)) k
+tail f zero = refl
+tail f (suc k) = ap (λ t. t + f (suc (suc k))) (tail f k) ∙ add_assoc (f 0) (sum_through (λ i. f (suc i)) k) (f (suc (suc k)))
+
+same : (f g : ℕ → ℕ) → ((i : ℕ) → f i ≡ g i) → (k : ℕ) → sum_through f k ≡ sum_through g k
+same f g h zero = h 0
+same f g h (suc k) = ap₂ (λ a b. a + b) (same f g h k) (h (suc k))
+
+pub number_read : (k : ℕ) (bs : List ℕ) → length bs ≡ suc k → sum_through (λ i. byte_worth (k - i) (get_or bs i 0)) k ≡ number bs
 unfolding number
-number_sixteen [] e = absurd (omega arith)
-number_sixteen (v0 ∷ []) e = absurd (omega arith)
-number_sixteen (v0 ∷ v1 ∷ []) e = absurd (omega arith)
-number_sixteen (v0 ∷ v1 ∷ v2 ∷ []) e = absurd (omega arith)
-number_sixteen (v0 ∷ v1 ∷ v2 ∷ v3 ∷ []) e = absurd (omega arith)
-number_sixteen (v0 ∷ v1 ∷ v2 ∷ v3 ∷ v4 ∷ []) e = absurd (omega arith)
-number_sixteen (v0 ∷ v1 ∷ v2 ∷ v3 ∷ v4 ∷ v5 ∷ []) e = absurd (omega arith)
-number_sixteen (v0 ∷ v1 ∷ v2 ∷ v3 ∷ v4 ∷ v5 ∷ v6 ∷ []) e = absurd (omega arith)
-number_sixteen (v0 ∷ v1 ∷ v2 ∷ v3 ∷ v4 ∷ v5 ∷ v6 ∷ v7 ∷ []) e = absurd (omega arith)
-number_sixteen (v0 ∷ v1 ∷ v2 ∷ v3 ∷ v4 ∷ v5 ∷ v6 ∷ v7 ∷ v8 ∷ []) e = absurd (omega arith)
-number_sixteen (v0 ∷ v1 ∷ v2 ∷ v3 ∷ v4 ∷ v5 ∷ v6 ∷ v7 ∷ v8 ∷ v9 ∷ []) e = absurd (omega arith)
-number_sixteen (v0 ∷ v1 ∷ v2 ∷ v3 ∷ v4 ∷ v5 ∷ v6 ∷ v7 ∷ v8 ∷ v9 ∷ v10 ∷ []) e = absurd (omega arith)
-number_sixteen (v0 ∷ v1 ∷ v2 ∷ v3 ∷ v4 ∷ v5 ∷ v6 ∷ v7 ∷ v8 ∷ v9 ∷ v10 ∷ v11 ∷ []) e = absurd (omega arith)
-number_sixteen (v0 ∷ v1 ∷ v2 ∷ v3 ∷ v4 ∷ v5 ∷ v6 ∷ v7 ∷ v8 ∷ v9 ∷ v10 ∷ v11 ∷ v12 ∷ []) e = absurd (omega arith)
-number_sixteen (v0 ∷ v1 ∷ v2 ∷ v3 ∷ v4 ∷ v5 ∷ v6 ∷ v7 ∷ v8 ∷ v9 ∷ v10 ∷ v11 ∷ v12 ∷ v13 ∷ []) e = absurd (omega arith)
-number_sixteen (v0 ∷ v1 ∷ v2 ∷ v3 ∷ v4 ∷ v5 ∷ v6 ∷ v7 ∷ v8 ∷ v9 ∷ v10 ∷ v11 ∷ v12 ∷ v13 ∷ v14 ∷ []) e = absurd (omega arith)
-number_sixteen (v0 ∷ v1 ∷ v2 ∷ v3 ∷ v4 ∷ v5 ∷ v6 ∷ v7 ∷ v8 ∷ v9 ∷ v10 ∷ v11 ∷ v12 ∷ v13 ∷ v14 ∷ v15 ∷ []) e = omega arith
-number_sixteen (v0 ∷ v1 ∷ v2 ∷ v3 ∷ v4 ∷ v5 ∷ v6 ∷ v7 ∷ v8 ∷ v9 ∷ v10 ∷ v11 ∷ v12 ∷ v13 ∷ v14 ∷ v15 ∷ v16 ∷ vs) e = absurd (omega arith)
-
-pub bytes_sixteen : (v : ℕ) → (v / 1329227995784915872903807060280344576 % 256) ∷ (v / 5192296858534827628530496329220096 % 256) ∷ (v / 20282409603651670423947251286016 % 256) ∷ (v / 79228162514264337593543950336 % 256) ∷ (v / 309485009821345068724781056 % 256) ∷ (v / 1208925819614629174706176 % 256) ∷ (v / 4722366482869645213696 % 256) ∷ (v / 18446744073709551616 % 256) ∷ (v / 72057594037927936 % 256) ∷ (v / 281474976710656 % 256) ∷ (v / 1099511627776 % 256) ∷ (v / 4294967296 % 256) ∷ (v / 16777216 % 256) ∷ (v / 65536 % 256) ∷ (v / 256 % 256) ∷ (v % 256) ∷ [] ≡ bytes 16 v
-unfolding bytes
-bytes_sixteen v = rw (div-one v)
+number_read k [] e = absurd (omega arith)
+number_read zero (b ∷ []) e = omega arith
+number_read zero (b ∷ c ∷ bs) e = absurd (omega arith)
+number_read (suc k) (b ∷ bs) e =
+    let l : suc k ≡ length bs = omega arith in
+    let z : suc k - 0 ≡ suc k = omega arith in
+    tail (λ i. byte_worth (suc k - i) (get_or (b ∷ bs) i 0)) k
+    ∙ ap₂ (λ s t. s + t)
+    (ap (λ t. byte_worth t b) z ∙ ap (λ t. b * t) (power (suc k)) ∙ ap (λ t. b * 2 ^ (8 * t)) l)
+    (same (λ i. byte_worth (suc k - suc i) (get_or bs i 0)) (λ i. byte_worth (k - i) (get_or bs i 0)) (λ i. let d : suc k - suc i ≡ k - i = omega arith in ap (λ t. byte_worth t (get_or bs i 0)) d) k
+    ∙ number_read k bs (sym l))

@@ -1,22 +1,25 @@
 // The product in each kind, and the elements as strings of bytes.
-ghost use Rattle.std.specs.Prelude.{◌*◌, length, ◌≡◌};
+ghost use Rattle.std.specs.Prelude.{◌*◌, length, ◌≡◌, ℕ, refl};
 ghost use Rattle.field.specs.Bytes.{number, bytes};
 ghost use Rattle.field.specs.Field.{mul};
 
 use crate::short::Short;
 use crate::wide::Wide;
-use crate::wides::{joined, parted};
 use arithmetic::{Multiplier, Poly};
 
-// A kind of polynomials with its product and its bytes. Each kind gives the product by the same line: the size of its tables is known only
-// where the kind is.
+// A kind of polynomials with its product and its bytes.
 pub trait Field: Poly {
     // The bytes of an element.
     const BYTES: usize;
 
+    ghost BYTES: { ℕ };
+
     // The constant BYTES.
     fn size() -> usize
-        ensures { result * 8 ≡ Self.width };
+        ensures { result * 8 ≡ Self.width }
+    {
+        Self::BYTES
+    }
 
     // The element whose number is n.
     fn numbered(n: u64) -> Self
@@ -32,6 +35,9 @@ pub trait Field: Poly {
         requires { length into.old * 8 ≡ Self.width }
         ensures { into.new ≡ bytes (length into.old) (Self.value self) };
 
+    // Kept: each kind gives the next two by the same lines. A default method would owe that a `Multiplier<Self>` finds room in memory, which no bound
+    // says of `Self`.
+
     // The product.
     fn product(self, other: Self) -> Self
         ensures { Self.value result ≡ mul Self.width Self.modulus (Self.value self) (Self.value other) };
@@ -40,28 +46,25 @@ pub trait Field: Poly {
     fn products(self, a: Self, c: Self) -> (Self, Self)
         ensures first { Self.value result.0 ≡ mul Self.width Self.modulus (Self.value a) (Self.value self) }
         ensures second { Self.value result.1 ≡ mul Self.width Self.modulus (Self.value c) (Self.value self) };
+
+    ghost whole: { BYTES * 8 ≡ Self.width };
 }
 
 impl Field for Short {
     const BYTES: usize = 8;
 
-    fn size() -> usize {
-        Self::BYTES
-    }
+    ghost BYTES = { 8 };
+
+    ghost whole = { refl };
 
     fn numbered(n: u64) -> Short {
-        Short { word: n }
+        Short::from(n)
     }
 
     fn read(from: &[u8]) -> Short {
-        Short {
-            word: u64::from_be_bytes([
-                from[0], from[1], from[2], from[3], from[4], from[5], from[6], from[7],
-            ]),
-        }
+        Short::from(u64::from_be_bytes(from.try_into().unwrap()))
     }
 
-    // Writes the element's bytes over `into`. Called with just the bytes of one element.
     fn write(self, into: &mut [u8]) {
         into.copy_from_slice(&self.word.to_be_bytes());
     }
@@ -79,25 +82,20 @@ impl Field for Short {
 impl Field for Wide {
     const BYTES: usize = 16;
 
-    fn size() -> usize {
-        Self::BYTES
-    }
+    ghost BYTES = { 16 };
+
+    ghost whole = { refl };
 
     fn numbered(n: u64) -> Wide {
         Wide { high: 0, low: n }
     }
 
     fn read(from: &[u8]) -> Wide {
-        parted(u128::from_be_bytes([
-            from[0], from[1], from[2], from[3], from[4], from[5], from[6], from[7], from[8],
-            from[9], from[10], from[11], from[12], from[13], from[14], from[15],
-        ]))
+        Wide::from(u128::from_be_bytes(from.try_into().unwrap()))
     }
 
-    // Writes the element's bytes over `into`. Called with just the bytes of one element.
     fn write(self, into: &mut [u8]) {
-        let all = joined(self).to_be_bytes();
-        into.copy_from_slice(&all);
+        into.copy_from_slice(&u128::from(self).to_be_bytes());
     }
 
     fn product(self, other: Wide) -> Wide {

@@ -1,11 +1,31 @@
 // The short kind's arithmetic, on one word.
-ghost use Rattle.std.specs.Prelude.{◌-◌, ◌*◌, ◌/◌, ◌^◌, ◌<◌};
+ghost use Rattle.std.specs.Prelude.{◌-◌, ◌*◌, ◌/◌, ◌^◌, ◌<◌, ◌≡◌};
 ghost use Rattle.field.specs.Field.{short_terms};
 ghost use Rattle.poly.specs.Shorts.{short_field, short_numbers};
 
 use crate::short::Short;
 use arithmetic::Poly;
 
+// The word as a polynomial.
+impl From<u64> for Short {
+    ghost from_gives = { λ n s. s.word ≡ n };
+
+    fn from(word: u64) -> Short {
+        Short { word }
+    }
+}
+
+// The polynomial as its word.
+impl From<Short> for u64 {
+    ghost from_gives = { λ s n. n ≡ s.word };
+
+    fn from(element: Short) -> u64 {
+        element.word
+    }
+}
+
+// Kept: the wide kind has an impl of its own. The methods differ in the words that they work on and in the terms that they fold by; what depends on
+// neither is generic in `arithmetic`.
 impl Poly for Short {
     ghost width = { 64 };
 
@@ -19,10 +39,6 @@ impl Poly for Short {
 
     fn bits() -> u32 {
         64
-    }
-
-    fn bytes() -> u32 {
-        8
     }
 
     fn raised(self) -> Short {

@@ -6,23 +6,28 @@ ghost use Rattle.poly.specs.Wides.{wide_field, wide_numbers, number};
 use crate::wide::Wide;
 use arithmetic::Poly;
 
-// The two words as one number.
-pub(crate) fn joined(w: Wide) -> u128
-    ensures { result ≡ number w }
-{
-    ((w.high as u128) << 64) + w.low as u128
-}
+// The polynomial as its number.
+impl From<Wide> for u128 {
+    ghost from_gives = { λ w n. n ≡ number w };
 
-// The number as two words.
-pub(crate) fn parted(n: u128) -> Wide
-    ensures { number result ≡ n }
-{
-    Wide {
-        high: (n >> 64) as u64,
-        low: (n & 0xffff_ffff_ffff_ffff) as u64,
+    fn from(w: Wide) -> u128 {
+        ((w.high as u128) << 64) + w.low as u128
     }
 }
 
+// The number as a polynomial of two words.
+impl From<u128> for Wide {
+    ghost from_gives = { λ n w. number w ≡ n };
+
+    fn from(n: u128) -> Wide {
+        Wide {
+            high: (n >> 64) as u64,
+            low: (n & 0xffff_ffff_ffff_ffff) as u64,
+        }
+    }
+}
+
+// Kept: apart from the short kind's, for the reason that stands there.
 impl Poly for Wide {
     ghost width = { 128 };
 
@@ -38,14 +43,10 @@ impl Poly for Wide {
         128
     }
 
-    fn bytes() -> u32 {
-        16
-    }
-
     fn raised(self) -> Wide {
-        let number = joined(self);
+        let number = u128::from(self);
         let out = number >> 120;
-        parted((number << 8) ^ (out ^ (out << 1) ^ (out << 2) ^ (out << 7)))
+        Wide::from((number << 8) ^ (out ^ (out << 1) ^ (out << 2) ^ (out << 7)))
     }
 
     fn top(self) -> usize {
@@ -57,12 +58,12 @@ impl Poly for Wide {
     }
 
     fn plus(self, other: Wide) -> Wide {
-        parted(joined(self) ^ joined(other))
+        Wide::from(u128::from(self) ^ u128::from(other))
     }
 
     fn doubled(self) -> Wide {
-        let number = joined(self);
-        parted((number << 1) ^ ((number >> 127) * 0x87))
+        let number = u128::from(self);
+        Wide::from((number << 1) ^ ((number >> 127) * 0x87))
     }
 
     fn one() -> Wide {
@@ -85,6 +86,6 @@ impl Poly for Wide {
     }
 
     fn shifted(self, by: u32) -> Wide {
-        parted(joined(self) << by)
+        Wide::from(u128::from(self) << by)
     }
 }

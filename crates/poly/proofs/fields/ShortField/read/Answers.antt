@@ -1,8 +1,10 @@
 -- What is left to show of `read`.
-use mathlib.Core.Path.{◌∙◌}
-use native.Mathlib.Omega.{arith}
-use Rattle.poly.proofs.Octets.{number_eight}
+use Rattle.std.proofs.Common.{length, ap, ◌∙◌}
+use Rattle.field.specs.Bytes.{number}
+use Rattle.poly.proofs.Octets.{number_read}
 use Rattle.poly.proofs.fields.ShortField.read.Goals as goal
 
 pub returns : goal.returns
-returns c = c.from_be_bytes.ensures ∙ number_eight c.args.from.now (omega (arith, c.requires))
+returns c =
+    let w = rw c.unwrap.ensures at c.try_into.ensures.1 in
+    c.from.ensures ∙ c.from_be_bytes.ensures ∙ number_read 7 c.unwrap.result (ap length w.same ∙ w.long) ∙ ap number w.same

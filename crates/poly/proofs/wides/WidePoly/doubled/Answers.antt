@@ -7,4 +7,4 @@ use Rattle.poly.proofs.wides.WidePoly.doubled.Goals as goal
 
 pub returns : goal.returns
 returns c =
-    c.parted.ensures ∙ branchless 128 0x87 c.joined-number.result (lit< tt) c.joined-number.type_inv ∙ ap (times_x 128 0x87) c.joined-number.ensures
+    c.from.ensures ∙ branchless 128 0x87 c.from-number.result (lit< tt) c.from-number.type_inv ∙ ap (times_x 128 0x87) c.from-number.ensures

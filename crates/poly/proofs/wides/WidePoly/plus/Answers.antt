@@ -4,4 +4,4 @@ use lib.Bits.{bit_xor}
 use Rattle.poly.proofs.wides.WidePoly.plus.Goals as goal
 
 pub returns : goal.returns
-returns c = c.parted.ensures ∙ ap₂ bit_xor c.joined.ensures c.joined-2.ensures
+returns c = c.from-3.ensures ∙ ap₂ bit_xor c.from.ensures c.from-2.ensures

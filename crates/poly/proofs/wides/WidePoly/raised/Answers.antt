@@ -5,4 +5,4 @@ use Rattle.field.proofs.Raised.{raised128}
 use Rattle.poly.proofs.wides.WidePoly.raised.Goals as goal
 
 pub returns : goal.returns
-returns c = c.parted.ensures ∙ raised128 c.joined-number.result c.joined-number.type_inv ∙ ap (raise 128 0x87 8) c.joined-number.ensures
+returns c = c.from.ensures ∙ raised128 c.from-number.result c.from-number.type_inv ∙ ap (raise 128 0x87 8) c.from-number.ensures
