@@ -14,7 +14,7 @@ pub fn power<K: Block>(k: usize) -> K
     ensures { result ≡ times (K.ops.mul K.ops.x) k K.ops.one }
 {
     let mut power = K::one();
-    for i in 0..k {
+    for _ in 0..k {
         power = power.double();
     }
     power
@@ -25,11 +25,9 @@ fn run_element<K: Block>(t: usize, i: usize, s: usize) -> K
     requires { (t ≤ most_blocks) × ((i < 3 * t) × (s ≤ 4)) }
     ensures { result ≡ times (K.ops.mul K.ops.x) s (slice_index_or (run K.ops.add (K.ops.mul K.ops.x) K.ops.one t) i K.ops.zero) }
 {
-    if i < 2 * t {
-        power(s + (i + 1))
-    } else {
-        let j = i - 2 * t;
-        power::<K>(s + (2 * j + 1)).add(power(s + (2 * j + 2)))
+    match i.checked_sub(2 * t) {
+        None => power(s + (i + 1)),
+        Some(j) => power::<K>(s + (2 * j + 1)).add(power(s + (2 * j + 2))),
     }
 }
 
@@ -52,19 +50,10 @@ fn coefficient_at<K: Block>(m: usize, i: usize) -> K
     ensures { result ≡ slice_index_or (mask_coefficients K.ops m) i K.ops.zero }
 {
     let t = m / 3;
-    let rest = m % 3;
-    if rest == 0 {
-        run_element(t, i, 0)
-    } else if rest == 1 {
-        if i < 4 {
-            head_element(4, i)
-        } else {
-            run_element(t - 1, i - 4, 3)
-        }
-    } else if i < 5 {
-        head_element(5, i)
-    } else {
-        run_element(t - 1, i - 5, 4)
+    match m % 3 {
+        0 => run_element(t, i, 0),
+        rest if i < rest + 3 => head_element(rest + 3, i),
+        rest => run_element(t - 1, i - (rest + 3), rest + 2),
     }
 }
 
@@ -83,9 +72,7 @@ pub fn mask_coefficient<K: Block>(m: usize, i: usize) -> Option<K>
 pub fn mask_degree<P: Field>(m: usize, i: usize) -> Option<u32>
     ensures { CoefficientDegree P.width m i result }
 {
-    let Some(coefficient) = mask_coefficient::<P>(m, i) else {
-        return None;
-    };
+    let coefficient: P = mask_coefficient(m, i)?;
     degree(coefficient)
 }
 

@@ -1,5 +1,5 @@
 -- Each mask coefficient by its place.
-use Rattle.std.proofs.Common.{◌≡◌, ℕ, zero, suc, ◌+◌, ◌-◌, ◌*◌, ◌/◌, ◌%◌, ◌<◌, ◌≤◌, map, length, get_or, sym, refl, ap, ◌∙◌, subst, ap₂, le_of_suc-le-suc, not-suc-le-zero, suc-add, zero-add, add-one, arith, length-append}
+use Rattle.std.proofs.Common.{◌≡◌, ℕ, zero, suc, ◌+◌, ◌-◌, ◌*◌, ◌/◌, ◌%◌, ◌<◌, ◌≤◌, ◌≢◌, map, length, get_or, sym, refl, ap, ◌∙◌, subst, ap₂, le_of_suc-le-suc, not-suc-le-zero, suc-add, zero-add, add-one, arith, length-append}
 use native.Mathlib.Decide.{dec_lt}
 use Rattle.std.proofs.lemmas.List.{get_or_append_left, get_or-append_right, get_or-map}
 use Rattle.field.specs.Mask.{times, singles, pairs, run, by_rest, coefficients}
@@ -60,31 +60,32 @@ module _ {E : Type 0} (φ : E → E) where
           get_or_append_left (singles φ (2 * t) (φ one)) (pairs add φ t (φ one)) d i k
           ∙ at_singles (2 * t) i (φ one) d h ∙ times_in i one ∙ ap (λ n. times φ n one) (sym (add-one i))
 
-      pub at_run_high : (t i : ℕ) → 2 * t ≤ i → i < 3 * t → get_or (run add φ one t) i d ≡ add (times φ (2 * (i - 2 * t) + 1) one) (times φ (2 * (i - 2 * t) + 2) one)
+      pub at_run_high : (t i j : ℕ) → i ≡ 2 * t + j → i < 3 * t → get_or (run add φ one t) i d ≡ add (times φ (2 * j + 1) one) (times φ (2 * j + 2) one)
       unfolding run times
-      at_run_high t i lo hi =
-          let j : ℕ = i - 2 * t in
+      at_run_high t i j p hi =
+          let k : i - 2 * t ≡ j = omega arith in
           let e : suc (2 * j) ≡ 2 * j + 1 = omega arith in
           let e' : suc (suc (2 * j)) ≡ 2 * j + 2 = omega arith in
-          get_or-append_right (singles φ (2 * t) (φ one)) (pairs add φ t (φ one)) (2 * t) i d (length_singles (2 * t) (φ one)) lo
+          get_or-append_right (singles φ (2 * t) (φ one)) (pairs add φ t (φ one)) (2 * t) i d (length_singles (2 * t) (φ one)) (omega arith)
+          ∙ ap (λ n. get_or (pairs add φ t (φ one)) n d) k
           ∙ at_pairs t j (φ one) d (omega arith)
           ∙ ap₂ add (times_in (2 * j) one ∙ ap (λ n. times φ n one) e) (ap φ (times_in (2 * j) one) ∙ ap (λ n. times φ n one) e')
 
-      pub at_four : (t i : ℕ) → i < 3 → get_or (by_rest add φ one t 1) i d ≡ add (times φ i one) (times φ (i + 1) one)
+      at_four : (t i : ℕ) → i < 3 → get_or (by_rest add φ one t 1) i d ≡ add (times φ i one) (times φ (i + 1) one)
       unfolding by_rest times
       at_four t zero h = refl
       at_four t (suc zero) h = refl
       at_four t (suc (suc zero)) h = refl
       at_four t (suc (suc (suc i))) h = absurd (omega arith)
 
-      pub at_four_last : (t : ℕ) → get_or (by_rest add φ one t 1) 3 d ≡ add (times φ 3 one) one
+      at_four_last : (t : ℕ) → get_or (by_rest add φ one t 1) 3 d ≡ add (times φ 3 one) one
       unfolding by_rest
       at_four_last t = refl
 
       at_tail : (k s t i : ℕ) → i < 3 * t → get_or (map (times φ s) (run add φ one t)) i d ≡ times φ s (get_or (run add φ one t) i d)
       at_tail k s t i h = get_or-map (times φ s) (run add φ one t) i d d (subst (λ (n : ℕ). i < n) (sym (length_run t)) h)
 
-      pub at_four_rest : (t i : ℕ) → 4 ≤ i → i < 3 * t + 1 → get_or (by_rest add φ one t 1) i d ≡ times φ 3 (get_or (run add φ one (t - 1)) (i - 4) d)
+      at_four_rest : (t i : ℕ) → 4 ≤ i → i < 3 * t + 1 → get_or (by_rest add φ one t 1) i d ≡ times φ 3 (get_or (run add φ one (t - 1)) (i - 4) d)
       unfolding by_rest
       at_four_rest t zero lo hi = absurd (omega arith)
       at_four_rest t (suc zero) lo hi = absurd (omega arith)
@@ -94,7 +95,7 @@ module _ {E : Type 0} (φ : E → E) where
           let e : i ≡ suc (suc (suc (suc i))) - 4 = omega arith in
           at_tail 0 3 (t - 1) i (omega arith) ∙ ap (λ n. times φ 3 (get_or (run add φ one (t - 1)) n d)) e
 
-      pub at_five : (t i : ℕ) → i < 4 → get_or (by_rest add φ one t 2) i d ≡ add (times φ i one) (times φ (i + 1) one)
+      at_five : (t i : ℕ) → i < 4 → get_or (by_rest add φ one t 2) i d ≡ add (times φ i one) (times φ (i + 1) one)
       unfolding by_rest times
       at_five t zero h = refl
       at_five t (suc zero) h = refl
@@ -102,11 +103,11 @@ module _ {E : Type 0} (φ : E → E) where
       at_five t (suc (suc (suc zero))) h = refl
       at_five t (suc (suc (suc (suc i)))) h = absurd (omega arith)
 
-      pub at_five_last : (t : ℕ) → get_or (by_rest add φ one t 2) 4 d ≡ add (times φ 4 one) one
+      at_five_last : (t : ℕ) → get_or (by_rest add φ one t 2) 4 d ≡ add (times φ 4 one) one
       unfolding by_rest
       at_five_last t = refl
 
-      pub at_five_rest : (t i : ℕ) → 5 ≤ i → i < 3 * t + 2 → get_or (by_rest add φ one t 2) i d ≡ times φ 4 (get_or (run add φ one (t - 1)) (i - 5) d)
+      at_five_rest : (t i : ℕ) → 5 ≤ i → i < 3 * t + 2 → get_or (by_rest add φ one t 2) i d ≡ times φ 4 (get_or (run add φ one (t - 1)) (i - 5) d)
       unfolding by_rest
       at_five_rest t zero lo hi = absurd (omega arith)
       at_five_rest t (suc zero) lo hi = absurd (omega arith)
@@ -127,7 +128,7 @@ module _ {E : Type 0} (φ : E → E) where
       at_none t i = refl
 
       -- the coefficients before the run, as the code finds them
-      pub head_four : (t i : ℕ) (v : E) → i < 4 → (i + 1 < 4 → v ≡ add (times φ i one) (times φ (i + 1) one)) → (i + 1 ≡ 4 → v ≡ add (times φ i one) one)
+      head_four : (t i : ℕ) (v : E) → i < 4 → (i + 1 < 4 → v ≡ add (times φ i one) (times φ (i + 1) one)) → (i + 1 ≡ 4 → v ≡ add (times φ i one) one)
           → v ≡ get_or (by_rest add φ one t 1) i d
       head_four t i v h inner outer =
           elim (dec_lt i 3) [
@@ -136,7 +137,7 @@ module _ {E : Type 0} (φ : E → E) where
                 outer (omega arith) ∙ ap (λ k. add (times φ k one) one) e ∙ sym (at_four_last t) ∙ ap (λ k. get_or (by_rest add φ one t 1) k d) (sym e)
           ]
 
-      pub head_five : (t i : ℕ) (v : E) → i < 5 → (i + 1 < 5 → v ≡ add (times φ i one) (times φ (i + 1) one)) → (i + 1 ≡ 5 → v ≡ add (times φ i one) one)
+      head_five : (t i : ℕ) (v : E) → i < 5 → (i + 1 < 5 → v ≡ add (times φ i one) (times φ (i + 1) one)) → (i + 1 ≡ 5 → v ≡ add (times φ i one) one)
           → v ≡ get_or (by_rest add φ one t 2) i d
       head_five t i v h inner outer =
           elim (dec_lt i 4) [
@@ -144,3 +145,18 @@ module _ {E : Type 0} (φ : E → E) where
             | no g ↦ let e : i ≡ 4 = omega arith in
                 outer (omega arith) ∙ ap (λ k. add (times φ k one) one) e ∙ sym (at_five_last t) ∙ ap (λ k. get_or (by_rest add φ one t 2) k d) (sym e)
           ]
+
+      -- the two remainders that have a head, whose length is three more
+      pub at_head : (t r i : ℕ) (v : E) → r ≢ 0 → r < 3 → i < r + 3 → (i + 1 < r + 3 → v ≡ add (times φ i one) (times φ (i + 1) one))
+          → (i + 1 ≡ r + 3 → v ≡ add (times φ i one) one) → v ≡ get_or (by_rest add φ one t r) i d
+      at_head t zero i v ne lt h inner outer = absurd (omega arith)
+      at_head t (suc zero) i v ne lt h inner outer = head_four t i v h inner outer
+      at_head t (suc (suc zero)) i v ne lt h inner outer = head_five t i v h inner outer
+      at_head t (suc (suc (suc r))) i v ne lt h inner outer = absurd (omega arith)
+
+      pub after_head : (t r i : ℕ) → r ≢ 0 → r < 3 → r + 3 ≤ i → i < 3 * t + r
+          → get_or (by_rest add φ one t r) i d ≡ times φ (r + 2) (get_or (run add φ one (t - 1)) (i - (r + 3)) d)
+      after_head t zero i ne lt lo hi = absurd (omega arith)
+      after_head t (suc zero) i ne lt lo hi = at_four_rest t i lo hi
+      after_head t (suc (suc zero)) i ne lt lo hi = at_five_rest t i lo hi
+      after_head t (suc (suc (suc r))) i ne lt lo hi = absurd (omega arith)

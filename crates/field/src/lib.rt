@@ -11,6 +11,8 @@ pub fn ring_laws()
     ensures { (n f : ℕ) → 1 < n → f < 2 ^ n → RingLaws n f }
 {}
 
+// Kept: a function for each kind's modulus, since what the contract promises is computed for that one number.
+
 // The short kind's modulus x^64 + x^4 + x^3 + x + 1 without x^64. It is irreducible, and the mask coefficients are sound.
 pub fn short_low_terms() -> u64
     ensures terms { result ≡ short_terms }

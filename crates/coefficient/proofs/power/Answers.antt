@@ -3,12 +3,12 @@ use Rattle.std.proofs.Common.{ℕ, sym, ap, ◌∙◌, add-one}
 use Rattle.field.specs.Mask.{times}
 use Rattle.coefficient.proofs.power.Goals as goal
 
-pub loop-i-init : goal.loop-i-init
+pub loop-init : goal.loop-init
 unfolding times
-loop-i-init g c = c.one-power.ensures
+loop-init g c = c.one-power.ensures
 
-pub loop-i-preserved : goal.loop-i-preserved
+pub loop-preserved : goal.loop-preserved
 unfolding times
-loop-i-preserved g c =
+loop-preserved g c =
     let o = g.K.Block.ops in
-    c.double-power.ensures ∙ ap (o.mul o.x) c.loop-i.invariant ∙ ap (λ (n : ℕ). times (o.mul o.x) n o.one) (sym (add-one c.loop-i.i))
+    c.double-power.ensures ∙ ap (o.mul o.x) c.loop.invariant ∙ ap (λ (n : ℕ). times (o.mul o.x) n o.one) (sym (add-one c.loop.counter))

@@ -3,5 +3,5 @@ use Rattle.std.proofs.Common.{◌≡◌}
 use Rattle.field.specs.Mask.{times}
 use Rattle.coefficient.proofs.power.Given as goal
 
-abbrev pub invariant-loop-i : goal.invariant-loop-i
-invariant-loop-i g l = let o = g.K.Block.ops in l.power ≡ times (o.mul o.x) l.i o.one
+abbrev pub invariant-loop : goal.invariant-loop
+invariant-loop g l = let o = g.K.Block.ops in l.power ≡ times (o.mul o.x) l.counter o.one
