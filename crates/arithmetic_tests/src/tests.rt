@@ -1,4 +1,4 @@
-// The tables that outside/vectors/field.py prints, and the tests that go through them. A wide element takes two words, the high one first.
+// The tables that outside/vectors/field.py prints, and the tests that go through them. The elements are given by their numbers.
 use coefficient::power;
 use kind::Block;
 use poly::{Short, Wide};
@@ -36,260 +36,217 @@ const SHORT_INVERSES: [[u64; 2]; 11] = [
 ];
 
 // k and x^k.
-const SHORT_POWERS: [[u64; 2]; 8] = [
-    [0, 0x0000000000000001],
-    [1, 0x0000000000000002],
-    [63, 0x8000000000000000],
-    [64, 0x000000000000001b],
-    [65, 0x0000000000000036],
-    [128, 0x0000000000000145],
-    [200, 0x00000000001db700],
-    [255, 0x8000000000008805],
+const SHORT_POWERS: [(usize, u64); 8] = [
+    (0, 0x0000000000000001),
+    (1, 0x0000000000000002),
+    (63, 0x8000000000000000),
+    (64, 0x000000000000001b),
+    (65, 0x0000000000000036),
+    (128, 0x0000000000000145),
+    (200, 0x00000000001db700),
+    (255, 0x8000000000008805),
 ];
 
 // a, b and their product.
-const WIDE_PRODUCTS: [[u64; 6]; 12] = [
+const WIDE_PRODUCTS: [[u128; 3]; 12] = [
     [
-        0x0000000000000000,
-        0x0000000000000000,
-        0x54dc765189f8f6dc,
-        0x9f9326be5a7eff0d,
-        0x0000000000000000,
-        0x0000000000000000,
+        0x00000000000000000000000000000000,
+        0x54dc765189f8f6dc9f9326be5a7eff0d,
+        0x00000000000000000000000000000000,
     ],
     [
-        0x0000000000000000,
-        0x0000000000000001,
-        0x44d09f3d38c20ebb,
-        0x55bab91cd20b52cf,
-        0x44d09f3d38c20ebb,
-        0x55bab91cd20b52cf,
+        0x00000000000000000000000000000001,
+        0x44d09f3d38c20ebb55bab91cd20b52cf,
+        0x44d09f3d38c20ebb55bab91cd20b52cf,
     ],
     [
-        0x0000000000000000,
-        0x0000000000000002,
-        0xd8aaa1f6d2b6c1ba,
-        0x5e97f5f843c901ee,
-        0xb15543eda56d8374,
-        0xbd2febf08792035b,
+        0x00000000000000000000000000000002,
+        0xd8aaa1f6d2b6c1ba5e97f5f843c901ee,
+        0xb15543eda56d8374bd2febf08792035b,
     ],
     [
-        0x8000000000000000,
-        0x0000000000000000,
-        0xd01e13be235f461f,
-        0x83923dd14744f3e0,
-        0x1fa9d295a39feecf,
-        0xa1f02ccabb538fdb,
+        0x80000000000000000000000000000000,
+        0xd01e13be235f461f83923dd14744f3e0,
+        0x1fa9d295a39feecfa1f02ccabb538fdb,
     ],
     [
-        0xffffffffffffffff,
-        0xffffffffffffffff,
-        0x43c243ee094546ce,
-        0x1f76663f8330df68,
-        0x27642adf8cebaf66,
-        0xa802393f8e44dd70,
+        0xffffffffffffffffffffffffffffffff,
+        0x43c243ee094546ce1f76663f8330df68,
+        0x27642adf8cebaf66a802393f8e44dd70,
     ],
     [
-        0xffffffffffffffff,
-        0xfffffffffffffffe,
-        0xe52fec142d752a6a,
-        0x05840f4ce50ee168,
-        0xa2223231e1ec6dbf,
-        0xb08e8c04adc35888,
+        0xfffffffffffffffffffffffffffffffe,
+        0xe52fec142d752a6a05840f4ce50ee168,
+        0xa2223231e1ec6dbfb08e8c04adc35888,
     ],
     [
-        0xe52fec142d752a6a,
-        0x05840f4ce50ee168,
-        0xffffffffffffffff,
-        0xfffffffffffffffe,
-        0xa2223231e1ec6dbf,
-        0xb08e8c04adc35888,
+        0xe52fec142d752a6a05840f4ce50ee168,
+        0xfffffffffffffffffffffffffffffffe,
+        0xa2223231e1ec6dbfb08e8c04adc35888,
     ],
     [
-        0x43c243ee094546ce,
-        0x1f76663f8330df68,
-        0xffffffffffffffff,
-        0xffffffffffffffff,
-        0x27642adf8cebaf66,
-        0xa802393f8e44dd70,
+        0x43c243ee094546ce1f76663f8330df68,
+        0xffffffffffffffffffffffffffffffff,
+        0x27642adf8cebaf66a802393f8e44dd70,
     ],
     [
-        0xd01e13be235f461f,
-        0x83923dd14744f3e0,
-        0x8000000000000000,
-        0x0000000000000000,
-        0x1fa9d295a39feecf,
-        0xa1f02ccabb538fdb,
+        0xd01e13be235f461f83923dd14744f3e0,
+        0x80000000000000000000000000000000,
+        0x1fa9d295a39feecfa1f02ccabb538fdb,
     ],
     [
-        0xd8aaa1f6d2b6c1ba,
-        0x5e97f5f843c901ee,
-        0x0000000000000000,
-        0x0000000000000002,
-        0xb15543eda56d8374,
-        0xbd2febf08792035b,
+        0xd8aaa1f6d2b6c1ba5e97f5f843c901ee,
+        0x00000000000000000000000000000002,
+        0xb15543eda56d8374bd2febf08792035b,
     ],
     [
-        0x44d09f3d38c20ebb,
-        0x55bab91cd20b52cf,
-        0x0000000000000000,
-        0x0000000000000001,
-        0x44d09f3d38c20ebb,
-        0x55bab91cd20b52cf,
+        0x44d09f3d38c20ebb55bab91cd20b52cf,
+        0x00000000000000000000000000000001,
+        0x44d09f3d38c20ebb55bab91cd20b52cf,
     ],
     [
-        0x54dc765189f8f6dc,
-        0x9f9326be5a7eff0d,
-        0x0000000000000000,
-        0x0000000000000000,
-        0x0000000000000000,
-        0x0000000000000000,
+        0x54dc765189f8f6dc9f9326be5a7eff0d,
+        0x00000000000000000000000000000000,
+        0x00000000000000000000000000000000,
     ],
 ];
 
 // a and its inverse.
-const WIDE_INVERSES: [[u64; 4]; 11] = [
+const WIDE_INVERSES: [[u128; 2]; 11] = [
     [
-        0x0000000000000000,
-        0x0000000000000001,
-        0x0000000000000000,
-        0x0000000000000001,
+        0x00000000000000000000000000000001,
+        0x00000000000000000000000000000001,
     ],
     [
-        0x0000000000000000,
-        0x0000000000000002,
-        0x8000000000000000,
-        0x0000000000000043,
+        0x00000000000000000000000000000002,
+        0x80000000000000000000000000000043,
     ],
     [
-        0x8000000000000000,
-        0x0000000000000000,
-        0xb604395d27ef1a8b,
-        0x604395d27ef1a8ee,
+        0x80000000000000000000000000000000,
+        0xb604395d27ef1a8b604395d27ef1a8ee,
     ],
     [
-        0xffffffffffffffff,
-        0xffffffffffffffff,
-        0xfe08629e8e4b766a,
-        0xfc10c53d1c96eca8,
+        0xffffffffffffffffffffffffffffffff,
+        0xfe08629e8e4b766afc10c53d1c96eca8,
     ],
     [
-        0xffffffffffffffff,
-        0xfffffffffffffffe,
-        0x67f063d9793baa04,
-        0x291ae2d33f831ef9,
+        0xfffffffffffffffffffffffffffffffe,
+        0x67f063d9793baa04291ae2d33f831ef9,
     ],
     [
-        0xe52fec142d752a6a,
-        0x05840f4ce50ee168,
-        0xadad02897040552c,
-        0xf7881720041ab22d,
+        0xe52fec142d752a6a05840f4ce50ee168,
+        0xadad02897040552cf7881720041ab22d,
     ],
     [
-        0x43c243ee094546ce,
-        0x1f76663f8330df68,
-        0x17f2a4398db1256d,
-        0xbec4dc01e1738d70,
+        0x43c243ee094546ce1f76663f8330df68,
+        0x17f2a4398db1256dbec4dc01e1738d70,
     ],
     [
-        0xd01e13be235f461f,
-        0x83923dd14744f3e0,
-        0x210d1465447ee45f,
-        0x67392e7b58845d42,
+        0xd01e13be235f461f83923dd14744f3e0,
+        0x210d1465447ee45f67392e7b58845d42,
     ],
     [
-        0xd8aaa1f6d2b6c1ba,
-        0x5e97f5f843c901ee,
-        0x5af4d9d392ffa1e5,
-        0x641508041ad76b41,
+        0xd8aaa1f6d2b6c1ba5e97f5f843c901ee,
+        0x5af4d9d392ffa1e5641508041ad76b41,
     ],
     [
-        0x44d09f3d38c20ebb,
-        0x55bab91cd20b52cf,
-        0x9a3858c4e17559c2,
-        0x16f091fd5d092d85,
+        0x44d09f3d38c20ebb55bab91cd20b52cf,
+        0x9a3858c4e17559c216f091fd5d092d85,
     ],
     [
-        0x54dc765189f8f6dc,
-        0x9f9326be5a7eff0d,
-        0x2d162f3c88aee819,
-        0x7dd8ab583cdd904c,
+        0x54dc765189f8f6dc9f9326be5a7eff0d,
+        0x2d162f3c88aee8197dd8ab583cdd904c,
     ],
 ];
 
 // k and x^k.
-const WIDE_POWERS: [[u64; 3]; 8] = [
-    [0, 0x0000000000000000, 0x0000000000000001],
-    [1, 0x0000000000000000, 0x0000000000000002],
-    [127, 0x8000000000000000, 0x0000000000000000],
-    [128, 0x0000000000000000, 0x0000000000000087],
-    [129, 0x0000000000000000, 0x000000000000010e],
-    [256, 0x0000000000000000, 0x0000000000004015],
-    [200, 0x0000000000008700, 0x0000000000000000],
-    [255, 0x8000000000000000, 0x0000000000002049],
+const WIDE_POWERS: [(usize, u128); 8] = [
+    (0, 0x00000000000000000000000000000001),
+    (1, 0x00000000000000000000000000000002),
+    (127, 0x80000000000000000000000000000000),
+    (128, 0x00000000000000000000000000000087),
+    (129, 0x0000000000000000000000000000010e),
+    (256, 0x00000000000000000000000000004015),
+    (200, 0x00000000000087000000000000000000),
+    (255, 0x80000000000000000000000000002049),
 ];
 
-fn short(word: u64) -> Short {
-    Short { word }
-}
-
-fn wide(high: u64, low: u64) -> Wide {
-    Wide { high, low }
-}
-
-#[test]
-fn short_products(rt: HostRuntime) {
-    for row in &SHORT_PRODUCTS {
-        assert_eq!(rt; short(row[0]).times(short(row[1])).word, row[2]);
+// Each product of the table, in the kind K whose elements' numbers are of the type N.
+fn products<K, N, const R: usize>(table: &[[N; 3]; R]) -> Result<(), Fail>
+where
+    K: Block + From<N>,
+    N: Copy + PartialEq + From<K>,
+{
+    for [a, b, product] in table {
+        let found = K::from(*a).times(K::from(*b));
+        if N::from(found) != *product {
+            return Err(Fail::new("a product that is not the table's"));
+        }
     }
+    Ok(())
 }
 
-#[test]
-fn short_inverses(rt: HostRuntime) -> Result<(), Fail> {
-    assert!(rt; short(0).inverse().is_none());
-    for row in &SHORT_INVERSES {
-        let Some(inverse) = short(row[0]).inverse() else {
+// Each inverse of the table, and that zero has none.
+fn inverses<K, N, const R: usize>(table: &[[N; 2]; R]) -> Result<(), Fail>
+where
+    K: Block + From<N>,
+    N: Copy + PartialEq + From<K>,
+{
+    if K::zero().inverse().is_some() {
+        return Err(Fail::new("an inverse of zero"));
+    }
+    for [a, inverse] in table {
+        let Some(found) = K::from(*a).inverse() else {
             return Err(Fail::new("an element without an inverse"));
         };
-        assert_eq!(rt; inverse.word, row[1]);
+        if N::from(found) != *inverse {
+            return Err(Fail::new("an inverse that is not the table's"));
+        }
+    }
+    Ok(())
+}
+
+// Each power of x of the table.
+fn powers<K, N, const R: usize>(table: &[(usize, N); R]) -> Result<(), Fail>
+where
+    K: Block,
+    N: Copy + PartialEq + From<K>,
+{
+    for (k, number) in table {
+        let found: K = power(*k);
+        if N::from(found) != *number {
+            return Err(Fail::new("a power of x that is not the table's"));
+        }
     }
     Ok(())
 }
 
 #[test]
-fn short_powers(rt: HostRuntime) {
-    for row in &SHORT_POWERS {
-        assert_eq!(rt; power::<Short>(row[0] as usize).word, row[1]);
-    }
+fn short_products() -> Result<(), Fail> {
+    products::<Short, u64, 12>(&SHORT_PRODUCTS)
 }
 
 #[test]
-fn wide_products(rt: HostRuntime) {
-    for row in &WIDE_PRODUCTS {
-        let product = wide(row[0], row[1]).times(wide(row[2], row[3]));
-        assert_eq!(rt; product.high, row[4]);
-        assert_eq!(rt; product.low, row[5]);
-    }
+fn short_inverses() -> Result<(), Fail> {
+    inverses::<Short, u64, 11>(&SHORT_INVERSES)
 }
 
 #[test]
-fn wide_inverses(rt: HostRuntime) -> Result<(), Fail> {
-    assert!(rt; wide(0, 0).inverse().is_none());
-    for row in &WIDE_INVERSES {
-        let Some(inverse) = wide(row[0], row[1]).inverse() else {
-            return Err(Fail::new("an element without an inverse"));
-        };
-        assert_eq!(rt; inverse.high, row[2]);
-        assert_eq!(rt; inverse.low, row[3]);
-    }
-    Ok(())
+fn short_powers() -> Result<(), Fail> {
+    powers::<Short, u64, 8>(&SHORT_POWERS)
 }
 
 #[test]
-fn wide_powers(rt: HostRuntime) {
-    for row in &WIDE_POWERS {
-        let power: Wide = power(row[0] as usize);
-        assert_eq!(rt; power.high, row[1]);
-        assert_eq!(rt; power.low, row[2]);
-    }
+fn wide_products() -> Result<(), Fail> {
+    products::<Wide, u128, 12>(&WIDE_PRODUCTS)
+}
+
+#[test]
+fn wide_inverses() -> Result<(), Fail> {
+    inverses::<Wide, u128, 11>(&WIDE_INVERSES)
+}
+
+#[test]
+fn wide_powers() -> Result<(), Fail> {
+    powers::<Wide, u128, 8>(&WIDE_POWERS)
 }
