@@ -22,6 +22,7 @@ fn multiples<P: Poly>(b: P) -> [P; 16]
 }
 
 // x^4 times b.
+#[tactic(auto, unfolding(field::specs::Window::raise))]
 fn by_sixteen<P: Poly>(b: P) -> P
     ensures { P.value result ≡ raise P.width P.modulus 4 (P.value b) }
 {

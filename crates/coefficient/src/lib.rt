@@ -10,6 +10,7 @@ use kind::{Block, MOST_BLOCKS};
 use poly::{Field, degree};
 
 // x^k.
+#[tactic(auto, unfolding(field::specs::Mask::times))]
 pub fn power<K: Block>(k: usize) -> K
     ensures { result ≡ times (K.ops.mul K.ops.x) k K.ops.one }
 {
@@ -44,7 +45,8 @@ fn head_element<K: Block>(k: usize, i: usize) -> K
     }
 }
 
-// The mask coefficient at place i of m blocks. Called with a count and a place that there are.
+// The mask coefficient at place i of m blocks. Where three divides m they are a run; else a head stands before it, of three more than what is left
+// over. Called with a count and a place that there are.
 fn coefficient_at<K: Block>(m: usize, i: usize) -> K
     requires { (3 ≤ m) × ((m ≤ most_blocks) × (i < m)) }
     ensures { result ≡ slice_index_or (mask_coefficients K.ops m) i K.ops.zero }
@@ -58,6 +60,7 @@ fn coefficient_at<K: Block>(m: usize, i: usize) -> K
 }
 
 // The mask coefficient at place i, counted from 0, of m blocks. None where m is below 3 or above the most blocks, or i is not below m.
+#[tactic(auto, unfolding(crate::specs::Coefficients::mask_coefficient))]
 pub fn mask_coefficient<K: Block>(m: usize, i: usize) -> Option<K>
     ensures { result ≡ mask_coefficient K.ops m i }
 {

@@ -58,9 +58,3 @@ loop-i-preserved g c =
           (eu ∙ sym (window.even n f p.field.fits p.field.wide i b room hb))
           (ev ∙ sym (window.odd n f p.field.fits p.field.wide i b room hb)),
     )
-
-pub returns : goal.returns
-returns g c =
-    let l = c.loop-i in
-    let e : 8 ≤ l.i = c.loop-i-test.false in
-    record { sixteen = l.invariant.0; each = λ k d h. l.invariant.1 k d (omega arith) }
