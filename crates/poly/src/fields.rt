@@ -25,6 +25,8 @@ pub trait Field: Poly {
     fn numbered(n: u64) -> Self
         ensures { Self.value result ≡ n };
 
+    // Kept: each kind reads and writes by the same lines over its own type of number: no trait has `from_be_bytes` and `to_be_bytes`.
+
     // The element whose coefficients are the bits of the bytes, the highest first. Called with just the bytes of one element.
     fn read(from: &[u8]) -> Self
         requires { length from.now * 8 ≡ Self.width }
