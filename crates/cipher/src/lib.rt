@@ -40,6 +40,16 @@ pub trait Cipher {
     ghost forth: { (c : Self) (b : Self.Block) → enc c (dec c b) ≡ b };
 }
 
+// The bytes of a block as an array, for a cipher that is defined on bytes.
+pub fn bytes_of<K: Block, const N: usize>(b: K) -> [u8; N]
+    requires { K.ops.size ≡ N }
+    ensures { result ≡ K.ops.bytes b }
+{
+    let mut bytes = [0; N];
+    b.store(&mut bytes);
+    bytes
+}
+
 // Every cipher's two maps send different blocks to different blocks, and leave no block out.
 pub fn permutes<C: Cipher>(cipher: &C)
     ensures encryption { Permutes (C.enc cipher.now) }

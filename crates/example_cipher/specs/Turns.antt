@@ -1,16 +1,12 @@
 -- A block whose bytes are turned and turned back is as it was, and the other way round.
-use Rattle.std.specs.Prelude.{◌≡◌, ℕ, ◌<◌, List, [], ◌∷◌, length, slice_index, refl}
-use Rattle.std.proofs.Common.{sym, inl, inr, arith}
-use Rattle.std.specs.List.{AllByRecursion}
+use Rattle.std.specs.Prelude.{◌≡◌, ℕ, List, [], ◌∷◌, length, slice_index, refl}
+use Rattle.std.proofs.Common.{sym}
 use Rattle.std.proofs.lemmas.List.FromFn.{fill_by_all}
-use Rattle.std.proofs.ByRecursion.{All-get_or}
-use Rattle.std.proofs.lemmas.List.{get_or_past}
-use Rattle.std.proofs.lemmas.Bool.{cases_lt}
 use Rattle.cipher.specs.Bytes.{through_bytes}
 use Rattle.cipher.proofs.Through.{through_undone}
 use Rattle.kind.specs.Laws.{Laws, Bytes}
 use Rattle.kind.specs.Polynomials.{short_ops}
-use Rattle.kind.specs.PolynomialsLemmas.{poly_laws}
+use Rattle.kind.specs.PolynomialsLemmas.{poly_laws, from_octets}
 use Rattle.poly.specs.Shorts.{short_field, short_numbers}
 use Rattle.poly.specs.declared.short.Short.{Short}
 use Rattle.example_cipher.specs.Turning.{turn, turn_back}
@@ -23,25 +19,16 @@ eight : (s : List ℕ) → length s ≡ 8
     → slice_index s 0 ∷ slice_index s 1 ∷ slice_index s 2 ∷ slice_index s 3 ∷ slice_index s 4 ∷ slice_index s 5 ∷ slice_index s 6 ∷ slice_index s 7 ∷ [] ≡ s
 eight s l = sym (fill_by_all (λ i. slice_index s i) s 8 0 l (λ k h. refl))
 
-bytes_of : (a b c d e f g h : ℕ) → AllByRecursion (λ y. y < 256) (a ∷ b ∷ c ∷ d ∷ e ∷ f ∷ g ∷ h ∷ []) → Bytes (a ∷ b ∷ c ∷ d ∷ e ∷ f ∷ g ∷ h ∷ [])
-bytes_of a b c d e f g h al i =
-    elim (cases_lt i 8) [
-      | inl p ↦ All-get_or (λ y. y < 256) (a ∷ b ∷ c ∷ d ∷ e ∷ f ∷ g ∷ h ∷ []) i 0 p al
-      | inr q ↦ (let z = get_or_past (a ∷ b ∷ c ∷ d ∷ e ∷ f ∷ g ∷ h ∷ []) i 0 q in omega arith)
-    ]
-
 turn_keeps : (s : List ℕ) → Bytes s → (length (turn s) ≡ 8) × Bytes (turn s)
 turn_keeps s h = (
   refl,
-  bytes_of (slice_index s 1) (slice_index s 2) (slice_index s 3) (slice_index s 4) (slice_index s 5) (slice_index s 6) (slice_index s 7) (slice_index s 0)
-      (h 1, (h 2, (h 3, (h 4, (h 5, (h 6, (h 7, (h 0, tt)))))))),
+  from_octets (turn s) (h 1, (h 2, (h 3, (h 4, (h 5, (h 6, (h 7, (h 0, tt)))))))),
 )
 
 turn_back_keeps : (s : List ℕ) → Bytes s → (length (turn_back s) ≡ 8) × Bytes (turn_back s)
 turn_back_keeps s h = (
   refl,
-  bytes_of (slice_index s 7) (slice_index s 0) (slice_index s 1) (slice_index s 2) (slice_index s 3) (slice_index s 4) (slice_index s 5) (slice_index s 6)
-      (h 7, (h 0, (h 1, (h 2, (h 3, (h 4, (h 5, (h 6, tt)))))))),
+  from_octets (turn_back s) (h 7, (h 0, (h 1, (h 2, (h 3, (h 4, (h 5, (h 6, tt)))))))),
 )
 
 pub turned_back : (b : Short) → through_bytes short_ops turn_back (through_bytes short_ops turn b) ≡ b

@@ -9,7 +9,7 @@ ghost use Rattle.kind.specs.Polynomials.{short_ops};
 ghost use Rattle.example_cipher.specs.Turns.{short_laws, turned_back, turned_forth};
 ghost use Rattle.cipher.specs.Bytes.{through_bytes};
 
-use cipher::Cipher;
+use cipher::{Cipher, bytes_of};
 use kind::Block;
 use poly::Short;
 
@@ -40,28 +40,26 @@ impl Cipher for Turning {
     ghost forth = { λ c b. ap (through_bytes short_ops turn) (sum_back short_ops short_laws (through_bytes short_ops turn_back b) c.key) ∙ turned_forth b };
 
     fn encrypt(&self, b: Short) -> Short {
-        let mut bytes = [0; 8];
-        b.add(self.key).store(&mut bytes);
-        let out = turned(bytes);
-        Short::load(&out)
+        Short::load(&turned(bytes_of(b.add(self.key))))
     }
 
     fn decrypt(&self, b: Short) -> Short {
-        let mut bytes = [0; 8];
-        b.store(&mut bytes);
-        let out = turned_back(bytes);
-        Short::load(&out).add(self.key)
+        Short::load(&turned_back(bytes_of(b))).add(self.key)
     }
 }
 
-fn turned(s: [u8; 8]) -> [u8; 8]
-    ensures { result ≡ turn s }
+// The bytes of a block, the first one put last.
+fn turned(mut bytes: [u8; 8]) -> [u8; 8]
+    ensures { result ≡ turn bytes }
 {
-    [s[1], s[2], s[3], s[4], s[5], s[6], s[7], s[0]]
+    bytes.rotate_left(1);
+    bytes
 }
 
-fn turned_back(s: [u8; 8]) -> [u8; 8]
-    ensures { result ≡ turn_back s }
+// The bytes of a block, the last one put first.
+fn turned_back(mut bytes: [u8; 8]) -> [u8; 8]
+    ensures { result ≡ turn_back bytes }
 {
-    [s[7], s[0], s[1], s[2], s[3], s[4], s[5], s[6]]
+    bytes.rotate_right(1);
+    bytes
 }

@@ -1,14 +1,11 @@
 -- XTEA's two maps keep strings of 8 bytes, and each undoes the other, for every list of key words.
 use Rattle.std.specs.Prelude.{◌≡◌, ℕ, ◌+◌, ◌*◌, ◌/◌, ◌%◌, ◌^◌, ◌<◌, List, [], ◌∷◌, ◌++◌, length, bit_xor, slice_index_or, refl}
-use Rattle.std.proofs.Common.{sym, ap₂, ◌∙◌, inl, inr, arith}
+use Rattle.std.proofs.Common.{sym, ap₂, ◌∙◌, arith}
 use Rattle.std.proofs.Math.Path.{ap}
-use Rattle.std.specs.List.{AllByRecursion}
 use Rattle.std.proofs.lemmas.Nat.{shr-shr, xor_lt}
 use Rattle.std.proofs.lemmas.List.FromFn.{fill_by_all}
-use Rattle.std.proofs.ByRecursion.{All-get_or}
-use Rattle.std.proofs.lemmas.List.{get_or_past}
-use Rattle.std.proofs.lemmas.Bool.{cases_lt}
 use Rattle.kind.specs.Laws.{Bytes}
+use Rattle.kind.specs.PolynomialsLemmas.{from_octets}
 use Rattle.xtea.specs.declared.State.{State}
 use Rattle.xtea.specs.Repeat.{repeat}
 use Rattle.xtea.specs.Xtea.{plus, minus, mix, delta, first_key, second_key, grow_v0, grow_s, grow_v1, cycle, shrink_v0, shrink_s, shrink_v1, inv_cycle, word_at, word_bytes, start, bytes_of, last, encipher, decipher}
@@ -124,15 +121,10 @@ module _ (k : List ℕ) where
       (bytes_of_word (b 4) (b 5) (b 6) (b 7) (h 4) (h 5) (h 6) (h 7))
       ∙ sym (fill_by_all b bs 8 0 l (λ i q. refl))
 
-  all_bytes : (w : State) → AllByRecursion (λ y. y < 256) (bytes_of w)
-  all_bytes w = (omega arith, (omega arith, (omega arith, (omega arith, (omega arith, (omega arith, (omega arith, (omega arith, tt))))))))
-
   bytes_bytes : (w : State) → Bytes (bytes_of w)
-  bytes_bytes w i =
-      elim (cases_lt i 8) [
-        | inl p ↦ All-get_or (λ y. y < 256) (bytes_of w) i 0 p (all_bytes w)
-        | inr q ↦ (let e = get_or_past (bytes_of w) i 0 q in omega arith)
-      ]
+  bytes_bytes w =
+      from_octets (bytes_of w)
+      (omega arith, (omega arith, (omega arith, (omega arith, (omega arith, (omega arith, (omega arith, (omega arith, tt))))))))
 
   pub encipher_bytes : (bs : List ℕ) → (length (encipher k bs) ≡ 8) × Bytes (encipher k bs)
   unfolding encipher

@@ -2,17 +2,19 @@
 #![tactic(auto)]
 
 ghost use Rattle.std.specs.Prelude.{◌≡◌, ℕ, ◌+◌, ◌≤◌, length};
-ghost use Rattle.cipher.specs.Bytes.{through_bytes};
+ghost use Rattle.std.specs.Iterator.{ActsAs};
 ghost use Rattle.xtea.specs.Blocks.{encrypted, decrypted};
+ghost use Rattle.xtea.specs.Repeat.{repeat};
 ghost use Rattle.xtea.specs.Xtea.{mix, cycle, inv_cycle, word_at, key_words, start, bytes_of, encipher, decipher};
 ghost use Rattle.cipher.proofs.Through.{through_undone};
 ghost use Rattle.kind.specs.Polynomials.{short_ops};
 ghost use Rattle.xtea.specs.Undone.{encipher_bytes, encipher_undone, decipher_bytes, decipher_undone};
 ghost use Rattle.xtea.specs.XteaCipherLemmas.{short_laws};
 
-use cipher::Cipher;
+use cipher::{Cipher, bytes_of};
 use kind::Block;
 use poly::Short;
+use std::array;
 
 // What s grows by in each cycle.
 const DELTA: u32 = 0x9e37_79b9;
@@ -40,12 +42,7 @@ impl Xtea {
         ensures { result.key ≡ key_words key.now }
     {
         Xtea {
-            key: [
-                word_at(key, 0),
-                word_at(key, 4),
-                word_at(key, 8),
-                word_at(key, 12),
-            ],
+            key: array::from_fn(|i| word_at(key, 4 * i)),
         }
     }
 }
@@ -67,57 +64,32 @@ impl Cipher for Xtea {
         (λ s l h. decipher_bytes c.key s) (decipher_undone c.key) b };
 
     fn encrypt(&self, b: Short) -> Short {
-        self.encrypt_in(b)
+        Short::load(&self.encrypt_bytes(bytes_of(b)))
     }
 
     fn decrypt(&self, b: Short) -> Short {
-        self.decrypt_in(b)
+        Short::load(&self.decrypt_bytes(bytes_of(b)))
     }
 }
 
 impl Xtea {
-    // The encryption of a block of any kind that has 8 bytes.
-    fn encrypt_in<K: Block>(&self, b: K) -> K
-        requires { K.ops.size ≡ 8 }
-        ensures { result ≡ through_bytes K.ops (encipher self.now.key) b }
-    {
-        let mut bytes = [0; 8];
-        b.store(&mut bytes);
-        let out = self.encrypt_bytes(bytes);
-        K::load(&out)
-    }
-
-    // The decryption of a block of any kind that has 8 bytes.
-    fn decrypt_in<K: Block>(&self, b: K) -> K
-        requires { K.ops.size ≡ 8 }
-        ensures { result ≡ through_bytes K.ops (decipher self.now.key) b }
-    {
-        let mut bytes = [0; 8];
-        b.store(&mut bytes);
-        let out = self.decrypt_bytes(bytes);
-        K::load(&out)
-    }
-
+    // What 32 cycles make of the bytes of a block.
     fn encrypt_bytes(&self, bytes: [u8; 8]) -> [u8; 8]
         ensures { result ≡ encipher self.now.key bytes }
     {
-        let mut w = State::start(bytes, 0);
-        for _i in 0..32u32 {
-            w = self.cycle(w);
-        }
-        w.bytes()
+        State::new(bytes, 0).after_cycles(|w| self.cycle(w)).bytes()
     }
 
+    // What 32 cycles backwards make of the bytes of a block.
     fn decrypt_bytes(&self, bytes: [u8; 8]) -> [u8; 8]
         ensures { result ≡ decipher self.now.key bytes }
     {
-        let mut w = State::start(bytes, LAST);
-        for _i in 0..32u32 {
-            w = self.inv_cycle(w);
-        }
-        w.bytes()
+        State::new(bytes, LAST)
+            .after_cycles(|w| self.inv_cycle(w))
+            .bytes()
     }
 
+    // One cycle: each word grows by what the other one, the sum and a word of the key make.
     fn cycle(&self, w: State) -> State
         ensures { result ≡ cycle self.now.key w }
     {
@@ -131,6 +103,7 @@ impl Xtea {
         State { v0, v1, s }
     }
 
+    // One cycle backwards.
     fn inv_cycle(&self, w: State) -> State
         ensures { result ≡ inv_cycle self.now.key w }
     {
@@ -144,7 +117,8 @@ impl Xtea {
 }
 
 impl State {
-    fn start(bytes: [u8; 8], s: u32) -> State
+    // The state that begins with the two words of a block, and a sum.
+    fn new(bytes: [u8; 8], s: u32) -> State
         ensures { result ≡ start s bytes }
     {
         State {
@@ -154,6 +128,15 @@ impl State {
         }
     }
 
+    // The state after 32 turns of a cycle.
+    fn after_cycles<F: Fn(State) -> State>(self, cycle: F) -> State
+        requires { F.IsAlwaysCallable cycle }
+        ensures { (turn : State → State) → ActsAs F.FnMut cycle turn → result ≡ repeat turn 32 self }
+    {
+        (0..32u32).fold(self, |w, _| cycle(w))
+    }
+
+    // The bytes of the two words.
     fn bytes(self) -> [u8; 8]
         ensures { result ≡ bytes_of self }
     {

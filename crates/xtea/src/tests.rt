@@ -14,8 +14,7 @@ const VECTORS: [([u8; 16], u64, u64); 6] = [
 
 #[test]
 fn published_blocks(rt: HostRuntime) {
-    for i in 0..6usize {
-        let (key, plain, sealed) = VECTORS[i];
+    for (key, plain, sealed) in VECTORS {
         let c = Xtea::new(&key);
         assert_eq!(rt; c.encrypt(Short { word: plain }).word, sealed);
         assert_eq!(rt; c.decrypt(Short { word: sealed }).word, plain);

@@ -1,8 +1,0 @@
--- What holds at each turn of the loops of `xtea::Xtea::decrypt_bytes`.
-use Rattle.std.proofs.Common.{◌≡◌}
-use Rattle.xtea.specs.Repeat.{repeat}
-use Rattle.xtea.specs.Xtea.{inv_cycle}
-use Rattle.xtea.proofs.Xtea.decrypt_bytes.Given as goal
-
-abbrev pub invariant-loop-i : goal.invariant-loop-i
-invariant-loop-i l = l.w ≡ repeat (inv_cycle l.self.key) l._i l.initial.w
