@@ -1,30 +1,21 @@
--- Products by the constants of MixColumns and its inverse, as sums of doublings.
-use Rattle.std.proofs.Common.{◌≡◌, ℕ, one-mul, zero-mul}
-use lib.Bits.{bit_xor, xor_zero_r}
+-- Products by constants of four bits, as sums of doublings.
+use Rattle.std.proofs.Common.{◌≡◌, ℕ, ◌*◌, ◌/◌, ◌%◌, one-mul, zero-mul, arith}
+use lib.Bits.{bit_xor, xor_zero_r, xor_assoc}
 use Rattle.field.specs.Field.{combine, powers}
 use Rattle.field.specs.Field.{mul as product}
 use Rattle.aes_steps.specs.Field.{xtime, mul}
 
-pub mul_two : (b : ℕ) → mul 0x02 b ≡ xtime b
+pub mul_one : (b : ℕ) → mul 0x01 b ≡ b
 unfolding product combine powers
-mul_two b = simp (one-mul, zero-mul, xor_zero_r)
+mul_one b = simp (one-mul, zero-mul, xor_zero_r)
 
-pub mul_three : (b : ℕ) → mul 0x03 b ≡ bit_xor b (xtime b)
+pub mul_four_bits : (a b : ℕ)
+    → bit_xor (bit_xor (bit_xor (a % 2 * b) (a / 2 % 2 * xtime b)) (a / 4 % 2 * xtime (xtime b))) (a / 8 % 2 * xtime (xtime (xtime b))) ≡ mul (a % 16) b
 unfolding product combine powers
-mul_three b = simp (one-mul, zero-mul, xor_zero_r)
-
-pub mul_nine : (b : ℕ) → mul 0x09 b ≡ bit_xor b (xtime (xtime (xtime b)))
-unfolding product combine powers
-mul_nine b = simp (one-mul, zero-mul, xor_zero_r)
-
-pub mul_eleven : (b : ℕ) → mul 0x0b b ≡ bit_xor b (bit_xor (xtime b) (xtime (xtime (xtime b))))
-unfolding product combine powers
-mul_eleven b = simp (one-mul, zero-mul, xor_zero_r)
-
-pub mul_thirteen : (b : ℕ) → mul 0x0d b ≡ bit_xor b (bit_xor (xtime (xtime b)) (xtime (xtime (xtime b))))
-unfolding product combine powers
-mul_thirteen b = simp (one-mul, zero-mul, xor_zero_r)
-
-pub mul_fourteen : (b : ℕ) → mul 0x0e b ≡ bit_xor (xtime b) (bit_xor (xtime (xtime b)) (xtime (xtime (xtime b))))
-unfolding product combine powers
-mul_fourteen b = simp (one-mul, zero-mul, xor_zero_r)
+mul_four_bits a b =
+    let e1 : a % 16 % 2 ≡ a % 2 = omega arith in
+    let e2 : a % 16 / 2 % 2 ≡ a / 2 % 2 = omega arith in
+    let e4 : a % 16 / 2 / 2 % 2 ≡ a / 4 % 2 = omega arith in
+    let e8 : a % 16 / 2 / 2 / 2 % 2 ≡ a / 8 % 2 = omega arith in
+    let e16 : a % 16 / 2 / 2 / 2 / 2 ≡ 0 = omega arith in
+    simp (e1, e2, e4, e8, e16, zero-mul, xor_zero_r, xor_assoc)

@@ -24,6 +24,10 @@ state_is f s l e =
     sym (fill_by_all (λ i. f (i % 4) (i / 4)) s 16 0 l
     (λ k h. sym (e (k % 4) (k / 4) (omega arith) (omega arith) ∙ ap (λ n. get_or s n 0) (place k))))
 
+-- a list whose bytes are those of s under f is the state with f of each byte of s
+pub each_byte : (f : ℕ → ℕ) (s t : List ℕ) → length t ≡ 16 → ((i : ℕ) → i < 16 → get_or t i 0 ≡ f (get_or s i 0)) → t ≡ state (λ r c. f (at s r c))
+each_byte f s t l e = fill_by_all (λ i. f (at s (i % 4) (i / 4))) t 16 0 l (λ i h. e i h ∙ ap (λ n. f (get_or s n 0)) (sym (place i)))
+
 pub state_len : (f : ℕ → ℕ → ℕ) → length (state f) ≡ 16
 state_len f = length-map-range_with_len (λ i. f (i % 4) (i / 4)) 0 16
 

@@ -28,6 +28,10 @@ shift_rows s = state (λ r c. at s r ((c + r) % 4))
 abbrev pub inv_shift_rows : List ℕ → List ℕ
 inv_shift_rows s = state (λ r c. at s r ((c + (4 - r)) % 4))
 
+-- k • a ⊕ l • b ⊕ m • c ⊕ n • d, where a factor has four bits
+abbrev pub row : ℕ → ℕ → ℕ → ℕ → ℕ → ℕ → ℕ → ℕ → ℕ
+row k l m n a b c d = bit_xor (bit_xor (bit_xor (mul (k % 16) a) (mul (l % 16) b)) (mul (m % 16) c)) (mul (n % 16) d)
+
 -- {02} • a ⊕ {03} • b ⊕ c ⊕ d
 unfoldable pub mix : ℕ → ℕ → ℕ → ℕ → ℕ
 mix a b c d = bit_xor (bit_xor (bit_xor (mul 0x02 a) (mul 0x03 b)) c) d

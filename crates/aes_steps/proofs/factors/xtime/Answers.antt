@@ -1,8 +1,8 @@
--- What is left to show of `aes_steps::factors::times_two`.
+-- What is left to show of `aes_steps::factors::xtime`.
 use Rattle.std.proofs.Common.{◌≡◌, ◌*◌, ◌/◌, ◌%◌, sym, ap, arith}
 use lib.Bits.{bit_xor}
 use Rattle.field.specs.Field.{times_x}
-use Rattle.aes_steps.proofs.factors.times_two.Goals as goal
+use Rattle.aes_steps.proofs.factors.xtime.Goals as goal
 
 pub returns : goal.returns
 unfolding times_x
