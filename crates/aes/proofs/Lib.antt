@@ -1,3 +1,5 @@
--- Lemmas: the key expansion word by word, and the rounds one by one.
+-- Lemmas: arrays made by a function, the key expansion word by word, the round keys, and the rounds one by one.
+pub mod FromFn
 pub mod KeyWords
+pub mod RoundKeys
 pub mod RoundSteps

@@ -1,5 +1,5 @@
--- One round more, as the loops count.
-use Rattle.std.proofs.Common.{◌≡◌, ℕ, suc, ◌+◌, ◌-◌, ◌≤◌, List, sym, refl, ap, ◌∙◌, arith}
+-- One round more, as the loops go.
+use Rattle.std.proofs.Common.{◌≡◌, ℕ, suc, ◌+◌, List, refl, add-one}
 use Rattle.aes_steps.specs.Steps.{sub_bytes, inv_sub_bytes, shift_rows, inv_shift_rows, mix_columns, inv_mix_columns}
 use Rattle.aes.specs.Cipher.{add_round_key, rounds, inv_rounds}
 
@@ -20,19 +20,9 @@ inv_rounds_suc : (w : List ℕ) (n : ℕ) (s : List ℕ)
 unfolding inv_rounds
 inv_rounds_suc w n s = refl
 
-pub rounds_more : (w : List ℕ) (r : ℕ) (s : List ℕ) → 1 ≤ r
-    → add_round_key w r (mix_columns (shift_rows (sub_bytes (rounds w (r - 1) s)))) ≡ rounds w (r + 1 - 1) s
-rounds_more w r s h =
-    let n : ℕ = r - 1 in
-    let p : r ≡ suc n = omega arith in
-    let q : r + 1 - 1 ≡ suc n = omega arith in
-    ap (λ x. add_round_key w x (mix_columns (shift_rows (sub_bytes (rounds w n s))))) p ∙ sym (rounds_suc w n s) ∙ ap (λ x. rounds w x s) (sym q)
+pub rounds_more : (w : List ℕ) (n : ℕ) (s : List ℕ) → rounds w (n + 1) s ≡ add_round_key w (n + 1) (mix_columns (shift_rows (sub_bytes (rounds w n s))))
+rounds_more w n s = let e = add-one n in let f = rounds_suc w n s in cc
 
--- r counts down, and the round that is done is r - 1
-pub inv_rounds_more : (w : List ℕ) (r : ℕ) (s : List ℕ) → 2 ≤ r
-    → inv_rounds w (r - 1 - 1) (inv_mix_columns (add_round_key w (r - 1) (inv_sub_bytes (inv_shift_rows s)))) ≡ inv_rounds w (r - 1) s
-inv_rounds_more w r s h =
-    let n : ℕ = r - 1 - 1 in
-    let p : r - 1 ≡ suc n = omega arith in
-    ap (λ x. inv_rounds w n (inv_mix_columns (add_round_key w x (inv_sub_bytes (inv_shift_rows s))))) p
-    ∙ sym (inv_rounds_suc w n s) ∙ ap (λ x. inv_rounds w x s) (sym p)
+pub inv_rounds_more : (w : List ℕ) (n : ℕ) (s : List ℕ)
+    → inv_rounds w (n + 1) s ≡ inv_rounds w n (inv_mix_columns (add_round_key w (n + 1) (inv_sub_bytes (inv_shift_rows s))))
+inv_rounds_more w n s = let e = add-one n in let f = inv_rounds_suc w n s in cc

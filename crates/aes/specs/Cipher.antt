@@ -1,6 +1,10 @@
 -- Cipher and InvCipher of FIPS 197 for ten rounds, on 16 bytes, over an expanded key w.
-use Rattle.std.specs.Prelude.{ℕ, zero, suc, ◌+◌, ◌*◌, List, bit_xor, slice_index}
+use Rattle.std.specs.Prelude.{ℕ, zero, suc, ◌+◌, ◌*◌, List, take, drop, bit_xor, slice_index}
 use Rattle.aes_steps.specs.Steps.{at, state, sub_bytes, inv_sub_bytes, shift_rows, inv_shift_rows, mix_columns, inv_mix_columns}
+
+-- the 16 bytes of the round key for a round
+abbrev pub round_key : List ℕ → ℕ → List ℕ
+round_key w round = take 16 (drop (16 * round) w)
 
 -- AddRoundKey: column c of the state ⊕ w[4 round + c]
 unfoldable pub add_round_key : List ℕ → ℕ → List ℕ → List ℕ
