@@ -1,5 +1,5 @@
 -- The round keys as the chunks of an expanded key.
-use Rattle.std.proofs.Common.{◌≡◌, ℕ, zero, suc, ◌+◌, ◌*◌, List, [], ◌∷◌, map, length, length-append, get_or, drop, sym, refl, ap, ◌∙◌, arith}
+use Rattle.std.proofs.Common.{◌≡◌, ℕ, zero, suc, ◌+◌, ◌*◌, List, [], ◌∷◌, map, length, length-append, get_or, take, drop, sym, refl, ap, ◌∙◌, arith}
 use lib.Bits.{bit_xor}
 use Rattle.std.specs.List.{range_with_len, push}
 use Rattle.std.specs.Simd.{first_chunks}
@@ -9,11 +9,11 @@ use Rattle.aes_steps.specs.Steps.{at, state}
 use Rattle.aes_steps.proofs.States.{state_is, state_len, at_state}
 use Rattle.aes.specs.Cipher.{round_key, add_round_key}
 
-pub chunks_are : (w : List ℕ) (k i : ℕ) → first_chunks 16 k (drop (16 * i) w) ≡ map (λ n. round_key w n) (range_with_len i k)
-chunks_are w zero i = refl
-chunks_are w (suc k) i =
-    let e : 16 * i + 16 ≡ 16 * (i + 1) = omega arith in
-    ap (λ x. round_key w i ∷ x) (ap (first_chunks 16 k) (drop-drop 16 (16 * i) w ∙ ap (λ n. drop n w) e) ∙ chunks_are w k (i + 1))
+pub chunks_are : (n : ℕ) (w : List ℕ) (k i : ℕ) → first_chunks n k (drop (n * i) w) ≡ map (λ j. take n (drop (n * j) w)) (range_with_len i k)
+chunks_are n w zero i = refl
+chunks_are n w (suc k) i =
+    let e : n * i + n ≡ n * (i + 1) = grind arith in
+    ap (λ x. take n (drop (n * i) w) ∷ x) (ap (first_chunks n k) (drop-drop n (n * i) w ∙ ap (λ j. drop j w) e) ∙ chunks_are n w k (i + 1))
 
 -- of the round keys from 1 on, the last one and those before it
 pub last_key : (w : List ℕ) (all rest : List (List ℕ)) (key : List ℕ) → all ≡ map (λ n. round_key w n) (range_with_len 1 (length all)) → all ≡ push rest key
@@ -23,13 +23,13 @@ last_key w all rest key e p =
     let l : length all ≡ n + 1 = ap length p ∙ length-append rest (key ∷ []) in
     let m = map-range_with_len_more (λ n. round_key w n) 1 n (n + 1) (omega arith) in
     let q = same_from_push rest (map (λ n. round_key w n) (range_with_len 1 n)) key (round_key w (n + 1))
-        (sym p ∙ e ∙ ap (λ k. map (λ n. round_key w n) (range_with_len 1 k)) l ∙ m) in
+    (sym p ∙ e ∙ ap (λ k. map (λ n. round_key w n) (range_with_len 1 k)) l ∙ m) in
     (l, q.1, q.0)
 
 -- a round key added by itself is that of its round
 pub added_key : (w : List ℕ) (n : ℕ) (s : List ℕ) → add_round_key (round_key w n) 0 s ≡ add_round_key w n s
 unfolding add_round_key
-added_key w n s = 
+added_key w n s =
     let f : ℕ → ℕ → ℕ = λ r c. bit_xor (at s r c) (get_or w (4 * (4 * n + c) + r) 0) in
     state_is (λ r c. bit_xor (at s r c) (get_or (round_key w n) (4 * (4 * 0 + c) + r) 0)) (state f) (state_len f)
     (λ r c hr hc.

@@ -2,7 +2,6 @@
 use super::*;
 use cipher::Cipher;
 use poly::Wide;
-use std::process::Abort;
 
 #[derive(Clone, Copy)]
 struct Vector {
@@ -61,34 +60,27 @@ const EXPANDED: [u8; 176] = [
     0xd0, 0x14, 0xf9, 0xa8, 0xc9, 0xee, 0x25, 0x89, 0xe1, 0x3f, 0x0c, 0xc8, 0xb6, 0x63, 0x0c, 0xa6,
 ];
 
-fn same(rt: &impl Abort, b: Wide, words: (u64, u64)) {
-    assert_eq!(rt; b.high, words.0);
-    assert_eq!(rt; b.low, words.1);
+// The block of two words.
+fn block((high, low): (u64, u64)) -> Wide {
+    Wide { high, low }
+}
+
+// The two words of a block.
+fn words(b: Wide) -> (u64, u64) {
+    (b.high, b.low)
 }
 
 #[test]
 fn published_blocks(rt: HostRuntime) {
-    for i in 0..6usize {
-        let v = VECTORS[i];
+    for v in VECTORS {
         let c = Aes::new(&v.key);
-        let plain = Wide {
-            high: v.plain.0,
-            low: v.plain.1,
-        };
-        let sealed = Wide {
-            high: v.sealed.0,
-            low: v.sealed.1,
-        };
-        same(&rt, c.encrypt(plain), v.sealed);
-        same(&rt, c.decrypt(sealed), v.plain);
+        assert_eq!(rt; words(c.encrypt(block(v.plain))), v.sealed);
+        assert_eq!(rt; words(c.decrypt(block(v.sealed))), v.plain);
     }
 }
 
 #[test]
 fn published_key_expansion(rt: HostRuntime) {
     let c = Aes::new(&VECTORS[0].key);
-    for i in 0..176usize {
-        let byte = c.keys[i];
-        assert_eq!(rt; byte, EXPANDED[i]);
-    }
+    assert_eq!(rt; c.keys, EXPANDED);
 }

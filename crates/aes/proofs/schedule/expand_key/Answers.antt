@@ -1,25 +1,19 @@
 -- What is left to show of `aes::schedule::expand_key`.
-use Rattle.std.proofs.Common.{◌≡◌, ℕ, ◌+◌, ◌*◌, List, [], ◌∷◌, ◌++◌, get_or, take, sym, ap, ◌∙◌, arith, length-set}
-use Rattle.std.proofs.lemmas.List.{take_more_set, take_more, take_all}
+use Rattle.std.proofs.Common.{◌≡◌, ℕ, ◌+◌, ◌*◌, List, ◌++◌, length-append, get_or, take, sym, ap, ◌∙◌, arith, length-set}
+use Rattle.std.proofs.lemmas.List.{take_all, take-append-le}
 use Rattle.aes.specs.Keys.{expanded, key_expansion}
 use Rattle.aes.proofs.KeyWords.{expanded_none, expanded_more, take_four, word_is}
 use Rattle.aes.proofs.schedule.expand_key.Goals as goal
 
-pub loop-k-preserved : goal.loop-k-preserved
-loop-k-preserved c =
-    let k : ℕ = c.loop-k.k in
-    let key : List ℕ = c.args.key.now in (
-      simp length-set c.loop-k.invariant.0,
-      take_more_set c.loop-k.w k (get_or key k 0) (omega arith)
-          ∙ ap (λ x. x ++ get_or key k 0 ∷ []) c.loop-k.invariant.1
-          ∙ sym (take_more key k 0 (omega arith)),
-    )
-
 pub loop-i-init : goal.loop-i-init
 loop-i-init c =
-    let e : c.loop-k.k ≡ 16 = omega arith in
-    let f : take 16 c.loop-k.w ≡ take 16 c.args.key.now = rw e at c.loop-k.invariant.1 in
-    (c.loop-k.invariant.0, f ∙ take_all 16 c.args.key.now (omega arith) ∙ sym (expanded_none c.args.key.now))
+    let l = c.copy_from_slice.ensures.len in (
+      simp length-append (omega arith),
+      take-append-le 16 c.copy_from_slice.new.self _ (omega arith)
+          ∙ take_all 16 c.copy_from_slice.new.self (omega arith)
+          ∙ c.copy_from_slice.ensures.after
+          ∙ sym (expanded_none c.args.key.now),
+    )
 
 pub loop-i-preserved : goal.loop-i-preserved
 loop-i-preserved c =

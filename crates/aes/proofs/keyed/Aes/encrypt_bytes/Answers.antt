@@ -15,7 +15,7 @@ loop-key-preserved c =
     let n : ℕ = c.loop-key.key-index in
     let l : length c.round_keys.result.1.now ≡ 9 = ap length c.round_keys.ensures.middle in
     let k : get_or c.round_keys.result.1.now n [] ≡ round_key w (n + 1) =
-        ap (λ (x : List (List ℕ)). get_or x n []) c.round_keys.ensures.middle ∙ get_or-map-range_with_len (λ i. round_key w i) 1 9 n (n + 1) [] (omega arith) (omega arith) in
+    ap (λ (x : List (List ℕ)). get_or x n []) c.round_keys.ensures.middle ∙ get_or-map-range_with_len (λ i. round_key w i) 1 9 n (n + 1) [] (omega arith) (omega arith) in
     let a = added_key w (n + 1) c.mix_columns.result in
     let r = rounds_more w n c.add_round_key-t.result in cc
 
