@@ -137,6 +137,7 @@ impl State {
     }
 
     // The bytes of the two words.
+    // Kept: a method and no `From`, since the sum is left behind.
     fn bytes(self) -> [u8; 8]
         ensures { result ≡ bytes_of self }
     {
