@@ -4,11 +4,9 @@
 ghost use Rattle.cases.specs.Cases.{WorkedCases};
 
 // The worked cases hold: those of the arithmetic, and sealings with the glass cipher in the short and in the wide kind.
-pub fn worked_cases() -> u8
+pub fn worked_cases()
     ensures { WorkedCases }
-{
-    0
-}
+{}
 
 #[cfg(test)]
 mod tests {
@@ -28,10 +26,10 @@ mod tests {
         assert!(rt; unseal(&glass, &tweak, &mut text).is_ok());
         assert!(rt; text[511] == 9);
         let mut long = [9u8; 520];
-        let refused = match seal(&glass, &tweak, &mut long) {
-            Ok(_) => 0,
-            Err(fault) => fault.number(),
-        };
-        assert!(rt; refused == 12);
+        assert_eq!(rt;
+            seal(&glass, &tweak, &mut long),
+            Err(SealFault::TooManyBlocks)
+        );
+        assert_eq!(rt; SealFault::TooManyBlocks.number(), 12);
     }
 }

@@ -1,5 +1,6 @@
 -- The laws of the polynomial kinds, and buffers as blocks.
 pub mod Overs
 pub mod Buffers
+pub mod Walks
 pub mod Inverses
 pub mod Cases

@@ -8,4 +8,5 @@ pub mod pass;
 pub mod polys;
 
 pub use block::{Block, MOST_BLOCKS};
+pub use buffer::Blocks;
 pub use laws::{arithmetic_cases, buffer_laws, inverse_of, kind_laws};

@@ -1,9 +1,9 @@
-// A walk over the blocks of a buffer, with a state that runs along.
-ghost use Rattle.std.specs.Prelude.{◌≡◌, ◌*◌, ◌<◌, length};
+// A walk over the blocks of a buffer, with a state that runs along or with none.
+ghost use Rattle.std.specs.Prelude.{◌≡◌, map};
 ghost use Rattle.kind.specs.Blocks.{blocks, flat, over, after};
 
 use crate::block::Block;
-use crate::buffer::{load_block, store_block};
+use crate::buffer::Blocks;
 
 // What a walk does at each block, with a state of its own.
 pub trait Step<K> {
@@ -18,15 +18,32 @@ pub trait Step<K> {
         ensures state { self.new ≡ next self.old b };
 }
 
-// Takes the step at each of the m blocks of the buffer, first to last, and puts what it gives in the block's place. Called with m whole blocks.
-pub fn run_pass<K: Block, S: Step<K>>(s: &mut S, buf: &mut [u8], m: usize)
-    requires { length buf.old ≡ m * K.ops.size }
-    ensures value { buf.new ≡ flat K.ops (over S.out S.next s.old (blocks K.ops m buf.old)) }
-    ensures state { s.new ≡ after S.next s.old (blocks K.ops m buf.old) }
-{
-    for i in 0..m {
-        let b: K = load_block(buf, m, i);
-        let r = s.step(b);
-        store_block(buf, m, i, r);
+// Kept: both walks count the places. After `chunks_exact_mut` a proof knows how long the buffer is, but not what its chunks hold.
+impl<'a, K: Block> Blocks<'a, K> {
+    // Takes the step at each block, first to last, and puts what it gives in the block's place.
+    pub fn walk<S: Step<K>>(&mut self, s: &mut S)
+        ensures same { self.new.bytes.ghost_name ≡ self.old.bytes.ghost_name }
+        ensures count { self.new.count ≡ self.old.count }
+        ensures value { self.new.bytes.now ≡ flat K.ops (over S.out S.next s.old (blocks K.ops self.old.count self.old.bytes.now)) }
+        ensures state { s.new ≡ after S.next s.old (blocks K.ops self.old.count self.old.bytes.now) }
+    {
+        for i in 0..self.count {
+            let b = self.load(i);
+            let r = s.step(b);
+            self.store(i, r);
+        }
+    }
+
+    // Puts f of each block in its place, f being any map e on blocks.
+    pub fn map<F: Fn(K) -> K>(&mut self, f: F)
+        requires { F.IsAlwaysCallable f }
+        ensures same { self.new.bytes.ghost_name ≡ self.old.bytes.ghost_name }
+        ensures count { self.new.count ≡ self.old.count }
+        ensures value { (e : K → K) → ((b r : K) → F.post f b r → r ≡ e b) → self.new.bytes.now ≡ flat K.ops (map e (blocks K.ops self.old.count self.old.bytes.now)) }
+    {
+        for i in 0..self.count {
+            let b = self.load(i);
+            self.store(i, f(b));
+        }
     }
 }

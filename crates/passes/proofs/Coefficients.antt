@@ -7,6 +7,7 @@ use Rattle.field.proofs.MaskMap.{coefficients_map, run_map}
 use Rattle.kind.specs.Laws.{Ops, Laws, mask_coefficients}
 use Rattle.kind.specs.Blocks.{over}
 use Rattle.passes.specs.declared.running.Masks.{Masks}
+use Rattle.passes.specs.declared.running.Masks.TheVariants.{Alone, Pairs}
 use Rattle.passes.specs.Rows.{sum}
 use Rattle.passes.specs.Scheme.{with_mask, with_masks}
 use Rattle.passes.specs.Running.{mask_now, mask_next, first_by, first_masks}
@@ -72,26 +73,24 @@ module _ {K : Type 0} {F : Ops K} (law : Laws F) where
   stream zero s = []
   stream (suc k) s = mask_now F s ∷ stream k (mask_next F s)
 
-  stream_pairs : (k : ℕ) (b a : K) → stream k (record { base = b; at = a; heads = 0; alone = 0 }) ≡ pairs F.add by k a
+  stream_pairs : (k : ℕ) (a : K) → stream k (Pairs a) ≡ pairs F.add by k a
   unfolding stream pairs
-  stream_pairs zero b a = refl
-  stream_pairs (suc k) b a = ap (λ t. (a ⊕ x · a) ∷ t) (stream_pairs k b (x · (x · a)))
+  stream_pairs zero a = refl
+  stream_pairs (suc k) a = ap (λ t. (a ⊕ x · a) ∷ t) (stream_pairs k (x · (x · a)))
 
-  stream_run : (n k t : ℕ) (b a : K) → n ≡ k + t → (k ≡ 0 → a ≡ b) → stream n (record { base = b; at = a; heads = 0; alone = k }) ≡ singles by k a ++ pairs F.add by t b
-  unfolding stream singles
-  stream_run n zero t b a e h =
-      let q : n ≡ t = omega arith in
-      ap (λ n. stream n (record { base = b; at = a; heads = 0; alone = 0 })) q ∙ stream_pairs t b a ∙ ap (pairs F.add by t) (h refl)
+  stream_run : (n k t : ℕ) (b a : K) → n ≡ k + t → (k ≡ 0 → n ≡ 0) → stream n (Alone b a k) ≡ singles by k a ++ pairs F.add by t b
+  unfolding stream singles pairs
+  stream_run zero zero zero b a e h = refl
+  stream_run zero zero (suc t) b a e h = absurd (omega arith)
+  stream_run (suc n) zero t b a e h = let q : suc n ≡ 0 = h refl in absurd (omega arith)
   stream_run zero (suc k) t b a e h = absurd (omega arith)
-  stream_run (suc n) (suc zero) t b a e h = ap (λ u. a ∷ u) (stream_run n 0 t b b (omega arith) (λ z. refl) ∙ none t b)
-    where
-      none : (t : ℕ) (b : K) → singles by 0 b ++ pairs F.add by t b ≡ singles by 0 (x · a) ++ pairs F.add by t b
-      none t b = refl
+  stream_run (suc n) (suc zero) t b a e h =
+      let q : n ≡ t = omega arith in ap (λ u. a ∷ u) (ap (λ n. stream n (Pairs b)) q ∙ stream_pairs t b)
   stream_run (suc n) (suc (suc k)) t b a e h = ap (λ u. a ∷ u) (stream_run n (suc k) t b (x · a) (omega arith) (λ z. absurd (omega arith)))
 
-  run_at : (n t : ℕ) (v : K) → n ≡ 3 * t → stream n (record { base = x · v; at = x · v; heads = 0; alone = 2 * t }) ≡ run F.add by v t
+  run_at : (n t : ℕ) (v : K) → n ≡ 3 * t → stream n (Alone (x · v) (x · v) (2 * t)) ≡ run F.add by v t
   unfolding run
-  run_at n t v e = stream_run n (2 * t) t (x · v) (x · v) (omega arith) (λ z. refl)
+  run_at n t v e = stream_run n (2 * t) t (x · v) (x · v) (omega arith) (λ z. omega arith)
 
   -- a run of multiples
   run_times : (k t : ℕ) (v : K) → map (times by k) (run F.add by v t) ≡ run F.add by (times by k v) t

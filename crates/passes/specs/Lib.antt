@@ -2,3 +2,4 @@
 pub mod Rows
 pub mod Running
 pub mod Scheme
+pub mod Changed

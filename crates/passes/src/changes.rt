@@ -1,93 +1,87 @@
-// The changes that a pass makes to a buffer of m whole blocks, in its place. Each asks that the buffer is that long: the calls that a user makes check it first.
-ghost use Rattle.std.specs.Prelude.{◌≡◌, ℕ, ◌*◌, ◌≤◌, map, length};
+// The changes that a pass makes to the blocks of a buffer, in their place.
+ghost use Rattle.std.specs.Prelude.{◌≡◌, map};
 ghost use Rattle.kind.specs.Blocks.{blocks};
 ghost use Rattle.passes.specs.Rows.{sum, on_blocks};
 ghost use Rattle.passes.specs.Scheme.{mask, times_powers, masked};
+ghost use Rattle.passes.specs.Changed.{Changed};
 
 use crate::running::{Pair, Powers};
-use crate::steps::{Deciphering, Enciphering, first_masks};
-use crate::terms::Terms;
+use crate::steps::first_masks;
+use crate::work::Work;
 use cipher::Cipher;
-use kind::Block;
-use kind::buffer::load_block;
-use kind::pass::run_pass;
+use kind::{Block, Blocks};
 
 // Multiplies the block at each place i, counted from 0, by r to the power i: 2m - 3 products from two blocks up, and none for one.
-pub fn multiply_by_powers<K: Block>(r: K, m: u16, buffer: &mut [u8])
-    requires { length buffer.old ≡ m * K.ops.size }
-    ensures { buffer.new ≡ on_blocks K.ops m (times_powers K.ops r) buffer.old }
+fn multiply<K: Block>(buffer: &mut Blocks<'_, K>, r: K)
+    ensures same { buffer.new.bytes.ghost_name ≡ buffer.old.bytes.ghost_name }
+    ensures bytes { buffer.new.bytes.now ≡ on_blocks K.ops buffer.old.count (times_powers K.ops r) buffer.old.bytes.now }
 {
-    let left = m.saturating_sub(1);
     let mut powers = Powers {
         r,
-        power: r,
-        first: true,
-        left,
+        power: None,
+        left: buffer.count().saturating_sub(1),
     };
-    run_pass(&mut powers, buffer, m as usize);
+    buffer.walk(&mut powers);
 }
 
-// The sum of the blocks.
-fn total<K: Block>(m: usize, buffer: &[u8]) -> K
-    requires { length buffer.now ≡ m * K.ops.size }
-    ensures { result ≡ sum K.ops (blocks K.ops m buffer.now) }
-{
-    let mut t = K::zero();
-    for i in 0..m {
-        let b: K = load_block(buffer, m, i);
-        t = t.add(b);
+impl<'a, C: Cipher> Work<'a, C> {
+    // The sum of the blocks.
+    fn total(&self) -> C::Block
+        ensures { result ≡ sum C.Block.ops (blocks C.Block.ops self.now.terms.now.m self.now.bytes.now) }
+    {
+        let mut t = C::Block::zero();
+        for chunk in self.bytes.chunks_exact(C::Block::size()) {
+            t = t.add(C::Block::load(chunk));
+        }
+        t
     }
-    t
-}
 
-// Adds its mask to each block. One block gets `single`; from two blocks up the masks are made from M = E(the sum of the blocks and `end`).
-pub fn add_masks<C: Cipher>(
-    cipher: &C,
-    terms: &Terms<C::Block>,
-    single: C::Block,
-    end: C::Block,
-    buffer: &mut [u8],
-)
-    requires { length buffer.old ≡ terms.now.m * C.Block.ops.size }
-    ensures { buffer.new ≡ on_blocks C.Block.ops terms.now.m (masked C.Block.ops (C.enc cipher.now) (mask C.Block.ops terms.now single) end) buffer.old }
-{
-    let m = terms.m;
-    if m <= 1 {
-        let mut pair = Pair {
-            first: single,
-            second: single,
-        };
-        run_pass(&mut pair, buffer, m as usize);
-        return;
+    // Multiplies the block at each place i, counted from 0, by r to the power i.
+    pub fn multiply_by_powers(&mut self, r: C::Block)
+        ensures { Changed (times_powers C.Block.ops r) self.old self.new }
+    {
+        let bytes = &mut *self.bytes;
+        multiply(&mut Blocks::of(bytes, self.terms.m as usize), r);
     }
-    let all: C::Block = total(m as usize, buffer);
-    let sum = all.add(end);
-    let value = cipher.encrypt(sum);
-    if m == 2 {
-        let first = value.add(terms.en);
-        let second = value.add(terms.een);
-        let mut pair = Pair { first, second };
-        run_pass(&mut pair, buffer, m as usize);
-        return;
+
+    // Adds its mask to each block. One block gets `single`; from two blocks up the masks are made from M = E(the sum of the blocks and `end`).
+    pub fn add_masks(&mut self, single: C::Block, end: C::Block)
+        ensures { Changed (masked C.Block.ops (C.enc self.old.cipher.now) (mask C.Block.ops self.old.terms.now single) end) self.old self.new }
+    {
+        let m = self.terms.m;
+        if m <= 1 {
+            let mut pair = Pair {
+                first: single,
+                second: single,
+            };
+            self.walk(&mut pair);
+            return;
+        }
+        let value = self.cipher.encrypt(self.total().add(end));
+        if m == 2 {
+            let first = value.add(self.terms.en);
+            let second = value.add(self.terms.een);
+            let mut pair = Pair { first, second };
+            self.walk(&mut pair);
+            return;
+        }
+        let mut masks = first_masks(value, m);
+        self.walk(&mut masks);
     }
-    let mut masks = first_masks(value, m);
-    run_pass(&mut masks, buffer, m as usize);
-}
 
-// E of each block.
-pub fn encrypt_all<C: Cipher>(cipher: &C, m: u16, buffer: &mut [u8])
-    requires { length buffer.old ≡ m * C.Block.ops.size }
-    ensures { buffer.new ≡ on_blocks C.Block.ops m (map (C.enc cipher.now)) buffer.old }
-{
-    let mut each = Enciphering { cipher };
-    run_pass(&mut each, buffer, m as usize);
-}
+    // E of each block.
+    pub fn encrypt_all(&mut self)
+        ensures { Changed (map (C.enc self.old.cipher.now)) self.old self.new }
+    {
+        let cipher = self.cipher;
+        self.map(|b| cipher.encrypt(b));
+    }
 
-// D of each block.
-pub fn decrypt_all<C: Cipher>(cipher: &C, m: u16, buffer: &mut [u8])
-    requires { length buffer.old ≡ m * C.Block.ops.size }
-    ensures { buffer.new ≡ on_blocks C.Block.ops m (map (C.dec cipher.now)) buffer.old }
-{
-    let mut each = Deciphering { cipher };
-    run_pass(&mut each, buffer, m as usize);
+    // D of each block.
+    pub fn decrypt_all(&mut self)
+        ensures { Changed (map (C.dec self.old.cipher.now)) self.old self.new }
+    {
+        let cipher = self.cipher;
+        self.map(|b| cipher.decrypt(b));
+    }
 }

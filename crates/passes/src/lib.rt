@@ -6,6 +6,7 @@ pub mod changes;
 pub mod running;
 pub mod steps;
 pub mod terms;
+pub mod work;
 
-pub use changes::{add_masks, decrypt_all, encrypt_all, multiply_by_powers};
 pub use terms::Terms;
+pub use work::Work;

@@ -3,7 +3,6 @@ ghost use Rattle.std.specs.Prelude.{◌≡◌, ℕ, ◌≤◌};
 ghost use Rattle.passes.specs.Running.{power_now, power_next, pair_next, mask_now, mask_next, first_masks};
 
 use crate::running::{Masks, Pair, Powers};
-use cipher::Cipher;
 use kind::Block;
 use kind::pass::Step;
 
@@ -14,16 +13,16 @@ impl<K: Block> Step<K> for Powers<K> {
     ghost next = { λ s b. power_next K.ops s };
 
     fn step(&mut self, b: K) -> K {
-        if self.first {
-            self.first = false;
+        let Some(power) = self.power else {
+            self.power = Some(self.r);
             return b;
-        }
+        };
         if self.left <= 1 {
-            return self.power.times(b);
+            return power.times(b);
         }
-        let (product, next) = self.power.times_both(b, self.r);
-        self.power = next;
-        self.left = self.left - 1;
+        let (product, next) = power.times_both(b, self.r);
+        self.power = Some(next);
+        self.left -= 1;
         product
     }
 }
@@ -50,17 +49,16 @@ pub(crate) fn first_masks<K: Block>(value: K, m: u16) -> Masks<K>
     let rest = m % 3;
     if rest == 0 {
         let first = value.double();
-        return Masks {
-            base: first,
+        return Masks::Alone {
+            first,
             at: first,
-            heads: 0,
-            alone: 2 * t,
+            left: 2 * t,
         };
     }
-    Masks {
-        base: value,
+    Masks::Head {
+        value,
         at: value,
-        heads: rest + 3,
+        left: rest + 3,
         alone: 2 * (t - 1),
     }
 }
@@ -72,63 +70,47 @@ impl<K: Block> Step<K> for Masks<K> {
     ghost next = { λ s b. mask_next K.ops s };
 
     fn step(&mut self, b: K) -> K {
-        let at = self.at;
-        let next = at.double();
-        if self.heads > 1 {
-            self.heads = self.heads - 1;
-            self.at = next;
-            return b.add(at.add(next));
+        match *self {
+            Masks::Head {
+                value,
+                at,
+                left,
+                alone,
+            } => {
+                let next = at.double();
+                if left > 1 {
+                    *self = Masks::Head {
+                        value,
+                        at: next,
+                        left: left - 1,
+                        alone,
+                    };
+                    return b.add(at.add(next));
+                }
+                *self = Masks::Alone {
+                    first: next,
+                    at: next,
+                    left: alone,
+                };
+                b.add(at.add(value))
+            }
+            Masks::Alone { first, at, left } => {
+                *self = if left > 1 {
+                    Masks::Alone {
+                        first,
+                        at: at.double(),
+                        left: left - 1,
+                    }
+                } else {
+                    Masks::Pairs { at: first }
+                };
+                b.add(at)
+            }
+            Masks::Pairs { at } => {
+                let next = at.double();
+                *self = Masks::Pairs { at: next.double() };
+                b.add(at.add(next))
+            }
         }
-        if self.heads == 1 {
-            let mask = at.add(self.base);
-            self.heads = 0;
-            self.base = next;
-            self.at = next;
-            return b.add(mask);
-        }
-        if self.alone > 1 {
-            self.alone = self.alone - 1;
-            self.at = next;
-            return b.add(at);
-        }
-        if self.alone == 1 {
-            self.alone = 0;
-            self.at = self.base;
-            return b.add(at);
-        }
-        self.at = next.double();
-        b.add(at.add(next))
-    }
-}
-
-// E of each block.
-#[derive(Drop)]
-pub struct Enciphering<'a, C> {
-    pub cipher: &'a C,
-}
-
-impl<'a, C: Cipher> Step<C::Block> for Enciphering<'a, C> {
-    ghost out = { λ s b. C.enc s.cipher.now b };
-
-    ghost next = { λ s b. s };
-
-    fn step(&mut self, b: C::Block) -> C::Block {
-        self.cipher.encrypt(b)
-    }
-}
-
-// D of each block.
-#[derive(Drop)]
-pub struct Deciphering<'a, C> {
-    pub cipher: &'a C,
-}
-
-impl<'a, C: Cipher> Step<C::Block> for Deciphering<'a, C> {
-    ghost out = { λ s b. C.dec s.cipher.now b };
-
-    ghost next = { λ s b. s };
-
-    fn step(&mut self, b: C::Block) -> C::Block {
-        self.cipher.decrypt(b)
     }
 }

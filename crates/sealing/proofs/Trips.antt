@@ -2,7 +2,6 @@
 use Rattle.std.proofs.Common.{◌≡◌, ℕ, suc, ◌*◌, ◌/◌, ◌%◌, ◌<◌, ◌≤◌, Bool, true, false, cond, eqb, leb, ◌≢◌, ◌⊎◌, ◌↔◌, List, [], ◌∷◌, ◌++◌, length, Some, None, Ok, Err, Option, Result, sym, refl, ap, ◌∙◌, inl, inr, mul-le-mul_right, suc-mul, div-add-mod', zero-mul, mul-div_cancel, arith, length-append}
 use native.Mathlib.Nat.{mul-mod_left}
 use Rattle.std.proofs.lemmas.Bool.{eqb-true, leb-true, eq-eqb, ne_eqb, le-leb, lt-leb}
-use Rattle.field.specs.Bytes.{Size}
 use Rattle.kind.specs.Laws.{Ops, Laws, Bytes}
 use Rattle.kind.specs.Blocks.{blocks, flat}
 use Rattle.kind.proofs.Buffers.{blocks_flat, blocks_length, flat_blocks}
@@ -16,14 +15,8 @@ use Rattle.passes.proofs.RoundTrip as trip
 use Rattle.passes.proofs.RoundTrip.{Ready}
 use Rattle.passes.proofs.Coefficients.{length_coefficients, sum_coefficients}
 use Rattle.sealing.specs.Mode.{Maps, Inverse, sealed, unsealed, begun, sealing, unsealing, checked, with_inverse, Tweak, Buffer, Accepts, Dead, ThereAndBack, OneDeadTweak, Promises}
+use Rattle.passes.proofs.Walked.{size_pos}
 use Rattle.sealing.proofs.Agree.{sealed_agrees, unsealed_agrees, length_sealed, length_unsealed}
-
-size_pos : (n : ℕ) → Size n → 0 < n
-size_pos n (inl e) = omega arith
-size_pos n (inr (inl e)) = omega arith
-size_pos n (inr (inr (inl e))) = omega arith
-size_pos n (inr (inr (inr (inl e)))) = omega arith
-size_pos n (inr (inr (inr (inr e)))) = omega arith
 
 bytes_append : (xs ys : List ℕ) → Bytes xs → Bytes ys → Bytes (xs ++ ys)
 bytes_append [] ys h k i = k i

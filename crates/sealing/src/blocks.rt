@@ -1,12 +1,12 @@
 // The passes of sealing, and unsealing whole, on a buffer of as many blocks as was begun. The length is checked by the calls that a user makes.
-ghost use Rattle.std.specs.Prelude.{◌≡◌, ◌*◌, length};
-ghost use Rattle.passes.specs.Rows.{on_blocks};
+ghost use Rattle.std.specs.Prelude.{◌≡◌};
+ghost use Rattle.passes.specs.Changed.{Changed};
 ghost use Rattle.passes.specs.Scheme.{by_count};
 ghost use Rattle.sealing.specs.Mode.{maps, first_pass, second_pass, third_pass, sealed, unsealed};
 
 use cipher::Cipher;
 use kind::Block;
-use passes::{Terms, add_masks, decrypt_all, encrypt_all, multiply_by_powers};
+use passes::Work;
 
 // The one up to two blocks, and the other from three up.
 fn by_size<K: Copy>(m: u16, few: K, many: K) -> K
@@ -16,59 +16,48 @@ fn by_size<K: Copy>(m: u16, few: K, many: K) -> K
 }
 
 // The first pass: the blocks PP from the text.
-pub fn first_pass<C: Cipher>(cipher: &C, terms: &Terms<C::Block>, buffer: &mut [u8])
-    requires { length buffer.old ≡ terms.now.m * C.Block.ops.size }
-    ensures { buffer.new ≡ on_blocks C.Block.ops terms.now.m (first_pass C.Block.ops (maps C.enc C.dec cipher.now) terms.now) buffer.old }
+pub fn first_pass<C: Cipher>(work: &mut Work<'_, C>)
+    ensures { Changed (first_pass C.Block.ops (maps C.enc C.dec work.old.cipher.now) work.old.terms.now) work.old work.new }
 {
-    multiply_by_powers(terms.r, terms.m, buffer);
+    work.multiply_by_powers(work.terms.r);
 }
 
 // The second pass: the blocks CCC from the PP.
-pub fn second_pass<C: Cipher>(cipher: &C, terms: &Terms<C::Block>, buffer: &mut [u8])
-    requires { length buffer.old ≡ terms.now.m * C.Block.ops.size }
-    ensures { buffer.new ≡ on_blocks C.Block.ops terms.now.m (second_pass C.Block.ops (maps C.enc C.dec cipher.now) terms.now) buffer.old }
+pub fn second_pass<C: Cipher>(work: &mut Work<'_, C>)
+    ensures { Changed (second_pass C.Block.ops (maps C.enc C.dec work.old.cipher.now) work.old.terms.now) work.old work.new }
 {
-    add_masks(cipher, terms, terms.en, terms.en, buffer);
-    encrypt_all(cipher, terms.m, buffer);
+    work.add_masks(work.terms.en, work.terms.en);
+    work.encrypt_all();
 }
 
 // The third pass: the sealed blocks from the CCC.
-pub fn third_pass<C: Cipher>(cipher: &C, terms: &Terms<C::Block>, buffer: &mut [u8])
-    requires { length buffer.old ≡ terms.now.m * C.Block.ops.size }
-    ensures { buffer.new ≡ on_blocks C.Block.ops terms.now.m (third_pass C.Block.ops (maps C.enc C.dec cipher.now) terms.now) buffer.old }
+pub fn third_pass<C: Cipher>(work: &mut Work<'_, C>)
+    ensures { Changed (third_pass C.Block.ops (maps C.enc C.dec work.old.cipher.now) work.old.terms.now) work.old work.new }
 {
-    let single = terms.een.double();
+    let terms = work.terms;
     let end = by_size(terms.m, terms.en, terms.een);
-    add_masks(cipher, terms, single, end, buffer);
-    let m = terms.m;
-    multiply_by_powers(terms.r, m, buffer);
+    work.add_masks(terms.een.double(), end);
+    work.multiply_by_powers(terms.r);
 }
 
 // The sealed blocks from the text.
-pub(crate) fn seal_blocks<C: Cipher>(cipher: &C, terms: &Terms<C::Block>, buffer: &mut [u8])
-    requires { length buffer.old ≡ terms.now.m * C.Block.ops.size }
-    ensures { buffer.new ≡ on_blocks C.Block.ops terms.now.m (sealed C.Block.ops (maps C.enc C.dec cipher.now) terms.now) buffer.old }
+pub(crate) fn seal_blocks<C: Cipher>(work: &mut Work<'_, C>)
+    ensures { Changed (sealed C.Block.ops (maps C.enc C.dec work.old.cipher.now) work.old.terms.now) work.old work.new }
 {
-    first_pass(cipher, terms, buffer);
-    second_pass(cipher, terms, buffer);
-    third_pass(cipher, terms, buffer);
+    first_pass(work);
+    second_pass(work);
+    third_pass(work);
 }
 
 // The text from the sealed blocks. l is the inverse of R, and of no matter at one block.
-pub(crate) fn unseal_blocks<C: Cipher>(
-    cipher: &C,
-    terms: &Terms<C::Block>,
-    l: C::Block,
-    buffer: &mut [u8],
-)
-    requires { length buffer.old ≡ terms.now.m * C.Block.ops.size }
-    ensures { buffer.new ≡ on_blocks C.Block.ops terms.now.m (unsealed C.Block.ops (maps C.enc C.dec cipher.now) terms.now l) buffer.old }
+pub(crate) fn unseal_blocks<C: Cipher>(work: &mut Work<'_, C>, l: C::Block)
+    ensures { Changed (unsealed C.Block.ops (maps C.enc C.dec work.old.cipher.now) work.old.terms.now l) work.old work.new }
 {
-    multiply_by_powers(l, terms.m, buffer);
-    let single = terms.een.double();
-    add_masks(cipher, terms, single, terms.een, buffer);
-    decrypt_all(cipher, terms.m, buffer);
+    let terms = work.terms;
+    work.multiply_by_powers(l);
+    work.add_masks(terms.een.double(), terms.een);
+    work.decrypt_all();
     let end = by_size(terms.m, terms.een, terms.en);
-    add_masks(cipher, terms, terms.en, end, buffer);
-    multiply_by_powers(l, terms.m, buffer);
+    work.add_masks(terms.en, end);
+    work.multiply_by_powers(l);
 }

@@ -6,7 +6,7 @@ use crate::blocks::{seal_blocks, unseal_blocks};
 use cipher::Cipher;
 use fault::{NoInverse, SealFault};
 use kind::{Block, MOST_BLOCKS};
-use passes::Terms;
+use passes::{Terms, Work};
 
 // What a sealing or unsealing of `len` bytes begins with: R, EN, EEN and the number of blocks, and the inverse of R (zero at one block, which has no
 // use for it). Refuses, in this order: 10, the tweak is not one block; 11, `len` is not one or more whole blocks; 12, it is more than 64 blocks;
@@ -60,7 +60,8 @@ pub fn seal<C: Cipher>(cipher: &C, tweak: &[u8], buffer: &mut [u8]) -> Result<()
     ensures promises { Promised C.Block.ops (maps C.enc C.dec cipher.now) }
 {
     let (terms, _l) = prepare(cipher, tweak, buffer.len())?;
-    seal_blocks(cipher, &terms, buffer);
+    let mut work = Work::on(cipher, &terms, buffer);
+    seal_blocks(&mut work);
     Ok(())
 }
 
@@ -71,6 +72,7 @@ pub fn unseal<C: Cipher>(cipher: &C, tweak: &[u8], buffer: &mut [u8]) -> Result<
     ensures promises { Promised C.Block.ops (maps C.enc C.dec cipher.now) }
 {
     let (terms, l) = prepare(cipher, tweak, buffer.len())?;
-    unseal_blocks(cipher, &terms, l, buffer);
+    let mut work = Work::on(cipher, &terms, buffer);
+    unseal_blocks(&mut work, l);
     Ok(())
 }

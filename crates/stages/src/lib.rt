@@ -3,33 +3,74 @@
 // passes end in the sealing.
 #![tactic(auto)]
 
-ghost use Rattle.std.specs.Prelude.{◌≡◌, ◌*◌, length, ◌==◌};
+ghost use Rattle.std.specs.Prelude.{◌≡◌, length};
 ghost use Rattle.sealing.specs.Mode.{maps, sealing, answer, left, first_pass, second_pass, third_pass};
-ghost use Rattle.stages.specs.Stages.{beginning, hashed_after, enciphered_after, next_or_back, after_pass};
+ghost use Rattle.stages.specs.Stages.{beginning, next_stage, next_or_back, after_pass};
 
 use cipher::Cipher;
 use fault::SealFault;
 use kind::Block;
-use passes::Terms;
+use passes::{Terms, Work};
 use sealing::blocks::{first_pass, second_pass, third_pass};
 use sealing::prepare;
+use std::marker::PhantomData;
 
-// A sealing that has begun: R, EN, EEN by value and the number m of blocks. Its fields are private, so that only `begin` makes one.
+// What a stage's buffer holds: the text, before any pass.
+pub enum Text {}
+
+// The blocks PP, after the first pass.
+pub enum Pp {}
+
+// The blocks CCC, after the second pass.
+pub enum Ccc {}
+
+// A sealing under way: R, EN, EEN by value and the number m of blocks, and in its type what the buffer holds. Its fields are private, so that only
+// `begin` and the passes make one.
 #[derive(Drop)]
-pub struct Begun<K> {
+pub struct Stage<K, H> {
     terms: Terms<K>,
+    holds: PhantomData<H>,
 }
+
+// A sealing that has begun.
+pub type Begun<K> = Stage<K, Text>;
 
 // A sealing after its first pass: the buffer holds the blocks PP.
-#[derive(Drop)]
-pub struct Hashed<K> {
-    terms: Terms<K>,
-}
+pub type Hashed<K> = Stage<K, Pp>;
 
 // A sealing after its second pass: the buffer holds the blocks CCC.
-#[derive(Drop)]
-pub struct Enciphered<K> {
-    terms: Terms<K>,
+pub type Enciphered<K> = Stage<K, Ccc>;
+
+impl<K: Block, H> Stage<K, H> {
+    // The stage of these terms.
+    fn of(terms: Terms<K>) -> Self
+        ensures { result.terms ≡ terms }
+    {
+        Stage {
+            terms,
+            holds: PhantomData,
+        }
+    }
+
+    // The stage itself where a buffer of `len` bytes has m blocks; else it is refused (14) and handed back.
+    fn for_buffer(self, len: usize) -> Result<Stage<K, H>, Refused<Stage<K, H>>>
+        ensures { result ≡ next_or_back K.ops self.terms len self self }
+    {
+        if len != self.terms.m as usize * K::size() {
+            return Err(Refused {
+                stage: self,
+                fault: SealFault::OtherLength,
+            });
+        }
+        Ok(self)
+    }
+
+    // The stage after this one.
+    fn next<N>(self) -> Stage<K, N>
+        ensures { result ≡ next_stage self }
+    {
+        Stage::of(self.terms)
+    }
 }
 
 // A refused pass: its fault, and the stage that it was given, which can be used again.
@@ -53,14 +94,7 @@ pub fn begin<C: Cipher>(cipher: &C, tweak: &[u8], len: usize) -> Result<Begun<C:
     ensures { result ≡ beginning C.Block.ops (maps C.enc C.dec cipher.now) tweak.now len }
 {
     let (terms, _l) = prepare(cipher, tweak, len)?;
-    Ok(Begun { terms })
-}
-
-// Whether a buffer of `len` bytes has m blocks.
-fn has_blocks<K: Block>(m: u16, len: usize) -> bool
-    ensures { result ≡ (len == m * K.ops.size) }
-{
-    len == m as usize * K::size()
+    Ok(Stage::of(terms))
 }
 
 // The first pass turns the text into the blocks PP (one block stays as it is). Refuses a buffer of another length than was begun (14): then it hands
@@ -70,18 +104,12 @@ pub fn hash<C: Cipher>(
     stage: Begun<C::Block>,
     buffer: &mut [u8],
 ) -> Result<Hashed<C::Block>, Refused<Begun<C::Block>>>
-    ensures answers { result ≡ next_or_back C.Block.ops stage.terms (length buffer.old) (hashed_after stage) stage }
+    ensures answers { result ≡ next_or_back C.Block.ops stage.terms (length buffer.old) (next_stage stage) stage }
     ensures leaves { buffer.new ≡ after_pass C.Block.ops stage.terms (first_pass C.Block.ops (maps C.enc C.dec cipher.now) stage.terms) buffer.old }
 {
-    let Begun { terms } = stage;
-    if !has_blocks::<C::Block>(terms.m, buffer.len()) {
-        return Err(Refused {
-            stage: Begun { terms },
-            fault: SealFault::OtherLength,
-        });
-    }
-    first_pass(cipher, &terms, buffer);
-    Ok(Hashed { terms })
+    let begun = stage.for_buffer(buffer.len())?;
+    first_pass(&mut Work::on(cipher, &begun.terms, buffer));
+    Ok(begun.next())
 }
 
 // The second pass turns the blocks PP into the CCC. Refuses as the first pass does (14).
@@ -90,18 +118,12 @@ pub fn encipher<C: Cipher>(
     stage: Hashed<C::Block>,
     buffer: &mut [u8],
 ) -> Result<Enciphered<C::Block>, Refused<Hashed<C::Block>>>
-    ensures answers { result ≡ next_or_back C.Block.ops stage.terms (length buffer.old) (enciphered_after stage) stage }
+    ensures answers { result ≡ next_or_back C.Block.ops stage.terms (length buffer.old) (next_stage stage) stage }
     ensures leaves { buffer.new ≡ after_pass C.Block.ops stage.terms (second_pass C.Block.ops (maps C.enc C.dec cipher.now) stage.terms) buffer.old }
 {
-    let Hashed { terms } = stage;
-    if !has_blocks::<C::Block>(terms.m, buffer.len()) {
-        return Err(Refused {
-            stage: Hashed { terms },
-            fault: SealFault::OtherLength,
-        });
-    }
-    second_pass(cipher, &terms, buffer);
-    Ok(Enciphered { terms })
+    let hashed = stage.for_buffer(buffer.len())?;
+    second_pass(&mut Work::on(cipher, &hashed.terms, buffer));
+    Ok(hashed.next())
 }
 
 // The third pass turns the blocks CCC into the sealed ones. Refuses as the first pass does (14).
@@ -113,14 +135,8 @@ pub fn finish<C: Cipher>(
     ensures answers { result ≡ next_or_back C.Block.ops stage.terms (length buffer.old) tt stage }
     ensures leaves { buffer.new ≡ after_pass C.Block.ops stage.terms (third_pass C.Block.ops (maps C.enc C.dec cipher.now) stage.terms) buffer.old }
 {
-    let Enciphered { terms } = stage;
-    if !has_blocks::<C::Block>(terms.m, buffer.len()) {
-        return Err(Refused {
-            stage: Enciphered { terms },
-            fault: SealFault::OtherLength,
-        });
-    }
-    third_pass(cipher, &terms, buffer);
+    let enciphered = stage.for_buffer(buffer.len())?;
+    third_pass(&mut Work::on(cipher, &enciphered.terms, buffer));
     Ok(())
 }
 

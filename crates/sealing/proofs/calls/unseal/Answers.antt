@@ -1,7 +1,8 @@
 -- what a refused beginning answers, and what an accepted one leaves
-use Rattle.std.proofs.Common.{◌/◌, length}
+use Rattle.std.proofs.Common.{rules, ◌≡◌, ◌/◌, length}
 use Rattle.passes.specs.Rows.{on_blocks}
-use Rattle.sealing.specs.Mode.{Promised, maps, begun, unsealed}
+use Rattle.passes.proofs.Walked.{on_buffer}
+use Rattle.sealing.specs.Mode.{Promised, left, unsealing, maps, begun, unsealed}
 use Rattle.sealing.proofs.Checks.{outcome_ok, outcome_err}
 use Rattle.sealing.proofs.Trips.{promises}
 use Rattle.sealing.proofs.calls.unseal.Goals as goal
@@ -22,18 +23,23 @@ returns-in_err-terms g c =
       promises = promises g.met.C.Block.Block.laws m (record { DE = g.met.C.Cipher.back k; ED = g.met.C.Cipher.forth k });
     }
 
-pub returns : goal.returns
-unfolding Promised
-returns g c =
+pub returns-clause-leaves : goal.returns-clause-leaves
+returns-clause-leaves g c =
     let F = g.C.Block.Block.ops in
     let k = c.args.cipher.now in
     let m = maps g.C.Cipher.enc g.C.Cipher.dec k in
     let T = c.args.tweak.now in
     let bs = c.args.buffer.now in
-    let p = outcome_ok F (length T) (length bs) (F.inverse (m.E (F.block T))) (λ L. (begun F m (F.block T) (length bs / F.size), L)) (λ p. on_blocks F p.0.m (unsealed F m p.0 p.1) bs)
-    (c.in_ok-terms.terms, c.in_ok-terms.l) bs c.unseal_blocks.new.buffer c.in_ok-terms.ensures.outcome c.unseal_blocks.ensures in
-    record {
-      answers = p.0;
-      leaves = p.1;
-      promises = promises g.met.C.Block.Block.laws m (record { DE = g.met.C.Cipher.back k; ED = g.met.C.Cipher.forth k });
-    }
+    let new = c.unseal_blocks.new.work.bytes.now in
+    let made : new ≡ left (unsealing F m T bs) bs =
+    (outcome_ok F (length T) (length bs) (F.inverse (m.E (F.block T))) (λ L. (begun F m (F.block T) (length bs / F.size), L)) (λ p. on_blocks F p.0.m (unsealed F m p.0 p.1) bs)
+    (c.in_ok-terms.terms, c.in_ok-terms.l) bs new c.in_ok-terms.ensures.outcome
+    (on_buffer (λ r t. unsealed F (maps g.C.Cipher.enc g.C.Cipher.dec r) t c.in_ok-terms.l) c.on-work.result c.unseal_blocks.new.work k c.in_ok-terms.terms bs
+    c.on-work.ensures.cipher c.on-work.ensures.terms c.on-work.ensures.bytes c.unseal_blocks.ensures)).1 in
+    search (rules, made)
+
+pub returns-clause-promises : goal.returns-clause-promises
+unfolding Promised
+returns-clause-promises g c =
+    let k = c.args.cipher.now in
+    promises g.met.C.Block.Block.laws (maps g.C.Cipher.enc g.C.Cipher.dec k) (record { DE = g.met.C.Cipher.back k; ED = g.met.C.Cipher.forth k })
