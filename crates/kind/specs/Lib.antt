@@ -2,6 +2,7 @@
 pub mod Laws
 pub mod Inverses
 pub mod Blocks
+pub mod Rewritten
 pub mod Polynomials
 pub mod Cases
 pub mod PolynomialsLemmas

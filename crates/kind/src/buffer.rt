@@ -1,10 +1,20 @@
 // A buffer of bytes seen as blocks.
-ghost use Rattle.std.specs.Prelude.{◌≡◌, ◌*◌, ◌<◌, length, slice_index_or, slice_set};
+ghost use Rattle.std.specs.Prelude.{◌≡◌, ℕ, ◌+◌, ◌*◌, ◌<◌, ◌≤◌, length, slice_index_or, slice_set};
 ghost use Rattle.kind.specs.Blocks.{blocks};
 ghost use Rattle.kind.specs.Laws.{Bytes};
 
 use crate::block::Block;
 use std::marker::PhantomData;
+
+// Block i of a buffer that has at least so many.
+pub fn load_block<K: Block>(bytes: &[u8], i: usize) -> K
+    requires { i * K.ops.size + K.ops.size ≤ length bytes.now }
+    ensures { (m : ℕ) → i < m → result ≡ slice_index_or (blocks K.ops m bytes.now) i result }
+{
+    let n = K::size();
+    let start = i * n;
+    K::load(&bytes[start..start + n])
+}
 
 // A caller's buffer taken as `count` whole blocks, which are read and changed in their place. Its fields are private to this crate, so that nothing else
 // is known to be whole blocks.
@@ -44,9 +54,7 @@ impl<'a, K: Block> Blocks<'a, K> {
         requires { i < self.now.count }
         ensures { result ≡ slice_index_or (blocks K.ops self.now.count self.now.bytes.now) i result }
     {
-        let n = K::size();
-        let start = i * n;
-        K::load(&self.bytes[start..start + n])
+        load_block(self.bytes, i)
     }
 
     // Makes k block i, and leaves the other blocks.

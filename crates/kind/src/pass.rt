@@ -1,6 +1,7 @@
 // A walk over the blocks of a buffer, with a state that runs along or with none.
 ghost use Rattle.std.specs.Prelude.{◌≡◌, map};
-ghost use Rattle.kind.specs.Blocks.{blocks, flat, over, after};
+ghost use Rattle.kind.specs.Blocks.{blocks, over, after};
+ghost use Rattle.kind.specs.Rewritten.{Rewritten};
 
 use crate::block::Block;
 use crate::buffer::Blocks;
@@ -22,9 +23,7 @@ pub trait Step<K> {
 impl<'a, K: Block> Blocks<'a, K> {
     // Takes the step at each block, first to last, and puts what it gives in the block's place.
     pub fn walk<S: Step<K>>(&mut self, s: &mut S)
-        ensures same { self.new.bytes.ghost_name ≡ self.old.bytes.ghost_name }
-        ensures count { self.new.count ≡ self.old.count }
-        ensures value { self.new.bytes.now ≡ flat K.ops (over S.out S.next s.old (blocks K.ops self.old.count self.old.bytes.now)) }
+        ensures blocks { Rewritten (over S.out S.next s.old) self.old self.new }
         ensures state { s.new ≡ after S.next s.old (blocks K.ops self.old.count self.old.bytes.now) }
     {
         for i in 0..self.count {
@@ -37,9 +36,7 @@ impl<'a, K: Block> Blocks<'a, K> {
     // Puts f of each block in its place, f being any map e on blocks.
     pub fn map<F: Fn(K) -> K>(&mut self, f: F)
         requires { F.IsAlwaysCallable f }
-        ensures same { self.new.bytes.ghost_name ≡ self.old.bytes.ghost_name }
-        ensures count { self.new.count ≡ self.old.count }
-        ensures value { (e : K → K) → ((b r : K) → F.post f b r → r ≡ e b) → self.new.bytes.now ≡ flat K.ops (map e (blocks K.ops self.old.count self.old.bytes.now)) }
+        ensures { (e : K → K) → ((b r : K) → F.post f b r → r ≡ e b) → Rewritten (map e) self.old self.new }
     {
         for i in 0..self.count {
             let b = self.load(i);

@@ -1,7 +1,8 @@
 // The changes that a pass makes to the blocks of a buffer, in their place.
 ghost use Rattle.std.specs.Prelude.{◌≡◌, map};
 ghost use Rattle.kind.specs.Blocks.{blocks};
-ghost use Rattle.passes.specs.Rows.{sum, on_blocks};
+ghost use Rattle.kind.specs.Rewritten.{Rewritten};
+ghost use Rattle.passes.specs.Rows.{sum};
 ghost use Rattle.passes.specs.Scheme.{mask, times_powers, masked};
 ghost use Rattle.passes.specs.Changed.{Changed};
 
@@ -12,9 +13,8 @@ use cipher::Cipher;
 use kind::{Block, Blocks};
 
 // Multiplies the block at each place i, counted from 0, by r to the power i: 2m - 3 products from two blocks up, and none for one.
-fn multiply<K: Block>(buffer: &mut Blocks<'_, K>, r: K)
-    ensures same { buffer.new.bytes.ghost_name ≡ buffer.old.bytes.ghost_name }
-    ensures bytes { buffer.new.bytes.now ≡ on_blocks K.ops buffer.old.count (times_powers K.ops r) buffer.old.bytes.now }
+pub fn multiply_by_powers<K: Block>(r: K, buffer: &mut Blocks<'_, K>)
+    ensures { Rewritten (times_powers K.ops r) buffer.old buffer.new }
 {
     let mut powers = Powers {
         r,
@@ -41,7 +41,7 @@ impl<'a, C: Cipher> Work<'a, C> {
         ensures { Changed (times_powers C.Block.ops r) self.old self.new }
     {
         let bytes = &mut *self.bytes;
-        multiply(&mut Blocks::of(bytes, self.terms.m as usize), r);
+        multiply_by_powers(r, &mut Blocks::of(bytes, self.terms.m as usize));
     }
 
     // Adds its mask to each block. One block gets `single`; from two blocks up the masks are made from M = E(the sum of the blocks and `end`).

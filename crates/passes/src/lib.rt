@@ -8,5 +8,6 @@ pub mod steps;
 pub mod terms;
 pub mod work;
 
+pub use changes::multiply_by_powers;
 pub use terms::Terms;
 pub use work::Work;

@@ -11,6 +11,7 @@ use passes::{Terms, Work};
 // What a sealing or unsealing of `len` bytes begins with: R, EN, EEN and the number of blocks, and the inverse of R (zero at one block, which has no
 // use for it). Refuses, in this order: 10, the tweak is not one block; 11, `len` is not one or more whole blocks; 12, it is more than 64 blocks;
 // 13, it is two blocks or more and the tweak is dead, R being zero, with the missing inverse as its cause.
+// Kept: zero stands for the inverse at one block. With an Option, unsealing would have to put some block in the place of None: this zero.
 pub fn prepare<C: Cipher>(
     cipher: &C,
     tweak: &[u8],

@@ -15,10 +15,15 @@ loop-i-preserved g c =
           so_far.1 (omega arith) (so_far.2 e computes) c.load-b.ensures (computes _ _ c.f.ensures) c.store.ensures.value refl,
     )
 
-pub returns-clause-value : goal.returns-clause-value
-returns-clause-value g c e computes =
+pub returns : goal.returns
+returns g c e computes =
     let old = c.args.self.now in
     let now = c.loop-i.self in
-    done g.K.Block.ops (λ s b. e b) (λ s b. s) tt old.count old.bytes.now g.met.K.Block.laws now.count now.bytes.now c.loop-i.i tt
-    c.loop-i.invariant.1 (omega arith) now.whole now.octets (c.loop-i.invariant.2 e computes)
-    ∙ ap (flat g.K.Block.ops) (map_over e tt (blocks g.K.Block.ops old.count old.bytes.now))
+    let so_far = c.loop-i.invariant in
+    record {
+      buffer = so_far.0;
+      count = so_far.1;
+      bytes = done g.K.Block.ops (λ s b. e b) (λ s b. s) tt old.count old.bytes.now g.met.K.Block.laws now.count now.bytes.now c.loop-i.i tt
+          so_far.1 (omega arith) now.whole now.octets (so_far.2 e computes)
+          ∙ ap (flat g.K.Block.ops) (map_over e tt (blocks g.K.Block.ops old.count old.bytes.now));
+    }

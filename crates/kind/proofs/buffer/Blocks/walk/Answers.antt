@@ -17,18 +17,21 @@ loop-i-preserved g c =
     let so_far = c.loop-i.invariant in (
       c.store.ensures.same ∙ so_far.0,
       c.store.ensures.count ∙ so_far.1,
-      turn g.K.Block.ops g.S.Step.out g.S.Step.next c.args.s.now old.count old.bytes.now now.count now.bytes.now c.store.new.self.bytes.now c.loop-i.i c.loop-i.s c.step-r.new.self c.load-b.result c.step-r.result
-          so_far.1 (omega arith) so_far.2 c.load-b.ensures c.step-r.ensures.value c.store.ensures.value c.step-r.ensures.state,
+      turn g.K.Block.ops g.S.Step.out g.S.Step.next c.args.s.now old.count old.bytes.now now.count now.bytes.now c.store.new.self.bytes.now c.loop-i.i c.loop-i.s c.step-r.new.self c.load-b.result
+      c.step-r.result so_far.1 (omega arith) so_far.2 c.load-b.ensures c.step-r.ensures.value c.store.ensures.value c.step-r.ensures.state,
     )
 
-pub returns-clause-value : goal.returns-clause-value
-returns-clause-value g c =
+pub returns : goal.returns
+returns g c =
     let old = c.args.self.now in
     let now = c.loop-i.self in
-    done g.K.Block.ops g.S.Step.out g.S.Step.next c.args.s.now old.count old.bytes.now g.met.K.Block.laws now.count now.bytes.now c.loop-i.i c.loop-i.s
-    c.loop-i.invariant.1 (omega arith) now.whole now.octets c.loop-i.invariant.2
-
-pub returns-clause-state : goal.returns-clause-state
-returns-clause-state g c =
-    let old = c.args.self.now in
-    ended g.K.Block.ops g.S.Step.out g.S.Step.next c.args.s.now old.count old.bytes.now c.loop-i.self.bytes.now c.loop-i.i c.loop-i.s (omega arith) c.loop-i.invariant.2
+    let so_far = c.loop-i.invariant in
+    record {
+      blocks = record {
+        buffer = so_far.0;
+        count = so_far.1;
+        bytes = done g.K.Block.ops g.S.Step.out g.S.Step.next c.args.s.now old.count old.bytes.now g.met.K.Block.laws now.count now.bytes.now c.loop-i.i c.loop-i.s
+            so_far.1 (omega arith) now.whole now.octets so_far.2;
+      };
+      state = ended g.K.Block.ops g.S.Step.out g.S.Step.next c.args.s.now old.count old.bytes.now now.bytes.now c.loop-i.i c.loop-i.s (omega arith) so_far.2;
+    }
