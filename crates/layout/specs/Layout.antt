@@ -1,6 +1,7 @@
 -- The bytes of a card image whose blocks have w bytes: a header, then one record for each sector.
 -- Every number of the layout is defined here, once.
 use Rattle.std.specs.Prelude.{ℕ, ◌+◌, ◌-◌, ◌*◌, ◌/◌, Bool, true, not, ◌&&◌, List, [], ◌∷◌, ◌++◌, length, take, drop, replicate, ◌==◌, nat_le, nat_lt, slice_index}
+use Rattle.std.specs.Simd.{first_chunks}
 use borrow.Rule.Slice.PartMut.{put_mid}
 use Rattle.fault.specs.declared.Fault.TheVariants.{ImageLength, BadHeader}
 use Rattle.layout.specs.Checks.{Check, ◌⇒◌}
@@ -82,6 +83,10 @@ record_start w s = header_length w + record_length * s
 -- the record of sector s
 abbrev pub record_at : ℕ → List ℕ → ℕ → List ℕ
 record_at w image s = take record_length (drop (record_start w s) image)
+
+-- the records of an image, in the order of their sectors
+abbrev pub records_of : ℕ → List ℕ → List (List ℕ)
+records_of w image = first_chunks record_length (count_of w image) (drop (header_length w) image)
 
 -- the image with the record of sector s written anew
 abbrev pub put_record : ℕ → List ℕ → ℕ → List ℕ → List ℕ

@@ -2,10 +2,10 @@
 // and knows no cipher. specs/Layout.antt has the rules; each number of the layout is one constant here and one definition there.
 #![tactic(auto)]
 
-ghost use Rattle.std.specs.Prelude.{◌≡◌, ℕ, ◌+◌, ◌-◌, ◌*◌, ◌/◌, ◌%◌, ◌^◌, ◌<◌, ◌≤◌, true, false, not, List, [], ◌∷◌, ◌++◌, length, replicate, IfOk, if◌then◌else◌, Ok, Err};
+ghost use Rattle.std.specs.Prelude.{drop, ◌≡◌, ℕ, ◌+◌, ◌-◌, ◌*◌, ◌/◌, ◌%◌, ◌^◌, ◌<◌, ◌≤◌, true, false, not, List, [], ◌∷◌, ◌++◌, length, replicate, IfOk, if◌then◌else◌, Ok, Err};
 ghost use Rattle.fault.specs.declared.Fault.TheVariants.{ImageLength};
 ghost use Rattle.layout.specs.Checks.{ruled};
-ghost use Rattle.layout.specs.Layout.{sector_length, record_length, most_sectors, header_length, kind_code, count_of, is_sized, head_checks, card_number_of, record_start, record_at, blank_card, sealed_mark, zeros};
+ghost use Rattle.layout.specs.Layout.{mark_length, sector_length, record_length, most_sectors, header_length, kind_code, count_of, is_sized, head_checks, card_number_of, record_start, record_at, records_of, put_record, blank_card, sealed_mark, zeros};
 ghost use Rattle.layout.specs.Entries.{Reads, Fitting, Inside};
 
 use fault::Fault;
@@ -33,7 +33,7 @@ pub const MAGIC: u8 = 0x43;
 pub const NUMBER_START: usize = 2;
 
 // The mark of a blank record.
-pub const BLANK_MARK: [u8; 2] = [0, 0];
+pub const BLANK_MARK: [u8; MARK_LENGTH] = [0, 0];
 
 // The first byte of a sealed record's mark; the second is the key number.
 pub const SEALED_TAG: u8 = 0x4b;
@@ -65,13 +65,11 @@ pub fn kind_code<K: Block>() -> u8
 pub fn sector_count<K: Block>(image: &[u8]) -> Result<usize, Fault>
     ensures { result ≡ (if not (is_sized K.ops.size image.now) then Err ImageLength else Ok (count_of K.ops.size image.now)) }
 {
-    let head = header_length::<K>();
-    let len = image.len();
-    if len < head {
+    let Some(len) = image.len().checked_sub(header_length::<K>()) else {
         return Err(Fault::ImageLength);
-    }
-    let count = (len - head) / RECORD_LENGTH;
-    if (len - head) % RECORD_LENGTH != 0 || count < 1 || count > MOST_SECTORS {
+    };
+    let count = len / RECORD_LENGTH;
+    if len % RECORD_LENGTH != 0 || count < 1 || count > MOST_SECTORS {
         return Err(Fault::ImageLength);
     }
     Ok(count)
@@ -84,19 +82,18 @@ pub fn check_header<K: Block>(image: &[u8]) -> Result<usize, Fault>
     ensures outcome { result ≡ ruled (head_checks K.ops.size image.now) (count_of K.ops.size image.now) }
 {
     let count = sector_count::<K>(image)?;
-    if image[0] != MAGIC || image[1] != kind_code::<K>() {
+    if !image.starts_with(&[MAGIC, kind_code::<K>()]) {
         return Err(Fault::BadHeader);
     }
     Ok(count)
 }
 
-// The card number of an image that is at least a header long.
-pub fn card_number<K: Block>(image: &[u8]) -> &[u8]
+// The card number of an image that is at least a header long: a block of the kind.
+pub fn card_number<K: Block>(image: &[u8]) -> K
     requires { header_length K.ops.size ≤ length image.now }
-    ensures value { result.now ≡ card_number_of K.ops.size image.now }
-    ensures long { length result.now ≡ K.ops.size }
+    ensures { result ≡ K.ops.block (card_number_of K.ops.size image.now) }
 {
-    &image[NUMBER_START..NUMBER_START + width::<K>()]
+    K::load(&image[NUMBER_START..header_length::<K>()])
 }
 
 // Where the record of a sector begins. The caller has tested the sector against the image's count.
@@ -108,73 +105,90 @@ pub fn record_start<K: Block>(sector: usize) -> usize
 }
 
 // The record of a sector, which lies inside the image.
-pub fn record<K: Block>(image: &[u8], sector: usize) -> &[u8]
+pub fn record<K: Block>(image: &[u8], sector: usize) -> &[u8; RECORD_LENGTH]
     requires { Inside K.ops.size image.now sector }
-    ensures value { result.now ≡ record_at K.ops.size image.now sector }
-    ensures long { length result.now ≡ record_length }
+    ensures { result.now ≡ record_at K.ops.size image.now sector }
 {
     let start = record_start::<K>(sector);
-    &image[start..start + RECORD_LENGTH]
+    image[start..start + RECORD_LENGTH].as_array().unwrap()
+}
+
+// Writes the record of a sector, which lies inside the image.
+pub fn put_record<K: Block>(image: &mut [u8], sector: usize, rec: &[u8; RECORD_LENGTH])
+    requires { Inside K.ops.size image.old sector }
+    ensures { image.new ≡ put_record K.ops.size image.old sector rec.now }
+{
+    let start = record_start::<K>(sector);
+    image[start..start + RECORD_LENGTH].copy_from_slice(rec);
+}
+
+// The records of an image that is at least a header long, in the order of their sectors.
+pub fn records<K: Block>(image: &[u8]) -> &[[u8; RECORD_LENGTH]]
+    requires { header_length K.ops.size ≤ length image.now }
+    ensures { result.now ≡ records_of K.ops.size image.now }
+{
+    let (records, _) = image[header_length::<K>()..].as_chunks();
+    records
 }
 
 // Makes the image, of lawful length, the card with this number and only blank sectors.
-pub fn clear<K: Block>(image: &mut [u8], number: &[u8])
-    requires number_long { length number.now ≡ K.ops.size }
-    requires sized { is_sized K.ops.size image.old ≡ true }
-    ensures { image.new ≡ blank_card K.ops.size number.now image.old }
+pub fn clear<K: Block>(image: &mut [u8], number: K)
+    requires { is_sized K.ops.size image.old ≡ true }
+    ensures { image.new ≡ blank_card K.ops.size (K.ops.bytes number) image.old }
 {
     image.fill(0);
     image[0] = MAGIC;
     image[1] = kind_code::<K>();
-    image[NUMBER_START..NUMBER_START + number.len()].copy_from_slice(number);
+    number.store(&mut image[NUMBER_START..header_length::<K>()]);
 }
 
 // What a record holds: nothing, or a key number and the sealed bytes, which are that part of the record.
 #[derive(Clone, Copy)]
 pub enum Entry<'a> {
     Blank,
-    Sealed { key: usize, bytes: &'a [u8] },
+    Sealed {
+        key: usize,
+        bytes: &'a [u8; SECTOR_LENGTH],
+    },
 }
 
 // The entry of a whole record, by its mark alone. Refuses 7, 'the mark is neither 00 00 nor 4B hex with a number below the ring's size', for a ring of this
 // many keys, and names the sector.
-pub fn entry_of(rec: &[u8], keys: usize, sector: usize) -> Result<Entry<'_>, Fault>
-    requires { length rec.now ≡ record_length }
+pub fn entry_of(rec: &[u8; RECORD_LENGTH], keys: usize, sector: usize) -> Result<Entry<'_>, Fault>
     ensures { Reads rec.now keys sector result }
 {
-    if rec[0] == BLANK_MARK[0] && rec[1] == BLANK_MARK[1] {
-        return Ok(Entry::Blank);
+    match *rec.first_chunk().unwrap() {
+        BLANK_MARK => Ok(Entry::Blank),
+        [SEALED_TAG, key] if usize::from(key) < keys => Ok(Entry::Sealed {
+            key: usize::from(key),
+            bytes: behind_mark(rec),
+        }),
+        _ => Err(Fault::BadMark { sector }),
     }
-    let key = rec[1] as usize;
-    if rec[0] == SEALED_TAG && key < keys {
-        return Ok(Entry::Sealed {
-            key,
-            bytes: &rec[MARK_LENGTH..RECORD_LENGTH],
-        });
-    }
-    Err(Fault::BadMark { sector })
 }
 
-// Makes the record a sealed one: the key number's mark, then these bytes.
-pub fn fill_record(rec: &mut [u8], key: usize, bytes: &[u8])
-    requires whole { length rec.old ≡ record_length }
-    requires few { key < 256 }
-    requires long { length bytes.now ≡ sector_length }
-    ensures { rec.new ≡ sealed_mark key ++ bytes.now }
+// The bytes of a record behind its mark: the sealed ones, or the zeros of a blank record.
+pub fn behind_mark(rec: &[u8; RECORD_LENGTH]) -> &[u8; SECTOR_LENGTH]
+    ensures { result.now ≡ drop mark_length rec.now }
 {
+    rec.last_chunk().unwrap()
+}
+
+// The sealed record: the key number's mark, then these bytes.
+pub fn sealed_record(key: usize, bytes: &[u8; SECTOR_LENGTH]) -> [u8; RECORD_LENGTH]
+    requires { key < 256 }
+    ensures { result ≡ sealed_mark key ++ bytes.now }
+{
+    let mut rec = [0; RECORD_LENGTH];
     rec[0] = SEALED_TAG;
     rec[1] = key as u8;
-    rec[MARK_LENGTH..RECORD_LENGTH].copy_from_slice(bytes);
+    rec[MARK_LENGTH..].copy_from_slice(bytes);
+    rec
 }
 
 // Whether all bytes are zero, as those of a blank record must be.
 pub fn all_zero(bytes: &[u8]) -> bool
     ensures { result ≡ zeros bytes.now }
 {
-    for b in bytes {
-        if *b != 0 {
-            return false;
-        }
-    }
-    true
+    bytes.iter().all(|byte| *byte == 0)
 }

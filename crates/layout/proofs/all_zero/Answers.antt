@@ -1,28 +1,14 @@
--- The loop has passed only zeros so far: each way out is what the definition gives from there on.
-use Rattle.std.proofs.Common.{◌≡◌, ℕ, ◌+◌, ◌<◌, true, false, ◌&&◌, eqb, List, length, get_or, drop, sym, ap, ◌∙◌}
-use Rattle.std.proofs.lemmas.List.{drop_more, drop_all}
-use Rattle.std.proofs.lemmas.Bool.{eq-eqb, ne_eqb}
+-- The call's answer and the definition both say that every byte is zero.
+use Rattle.std.proofs.Common.{eqb, ◌&&◌, refl, ◌∙◌, rules, tests}
+use Rattle.std.specs.List.{list_all}
+use Rattle.std.proofs.lemmas.Iterator.{YieldsList-from_slice}
+use Rattle.std.proofs.lemmas.Iterator.Search.{all_from_yields_List}
+use Rattle.std.proofs.lemmas.List.Recursion.{same_from_clauses}
 use Rattle.layout.specs.Layout.{zeros}
 use Rattle.layout.proofs.all_zero.Goals as goal
 
-zeros_step : (xs : List ℕ) (i : ℕ) → i < length xs → zeros (drop i xs) ≡ (eqb (get_or xs i 0) 0 && zeros (drop (i + 1) xs))
-zeros_step xs i l = ap zeros (drop_more xs i 0 l)
-
-pub returns-then-b-ne0 : goal.returns-then-b-ne0
-returns-then-b-ne0 c =
-    let xs = c.args.bytes.now in
-    let i = c.loop-b.b-index in
-    let e : eqb (get_or xs i 0) 0 ≡ false = ne_eqb (get_or xs i 0) 0 c.if-b-ne0.true in
-    let s = rw e at (zeros_step xs i c.loop-b-test.true) in
-    sym s ∙ c.loop-b.invariant
-
-pub loop-b-preserved : goal.loop-b-preserved
-loop-b-preserved c =
-    let xs = c.args.bytes.now in
-    let i = c.loop-b.b-index in
-    let e : eqb (get_or xs i 0) 0 ≡ true = eq-eqb (get_or xs i 0) 0 c.if-b-ne0.false in
-    let s = rw e at (zeros_step xs i c.loop-b-test.true) in
-    sym s ∙ c.loop-b.invariant
-
 pub returns : goal.returns
-returns c = sym (ap zeros (drop_all c.loop-b.b-index c.args.bytes.now c.loop-b-test.false)) ∙ c.loop-b.invariant
+returns c =
+    let xs = c.args.bytes.now in
+    all_from_yields_List (λ b. eqb b 0) _ _ c.all.result c.all.ensures.ran (YieldsList-from_slice xs cc) (λ x b q k. search (rules, tests))
+    ∙ same_from_clauses (list_all (λ b. eqb b 0)) zeros (λ x t. eqb x 0 && t) refl (λ _ _. refl) (λ _ _. refl) xs

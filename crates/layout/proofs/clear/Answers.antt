@@ -9,14 +9,12 @@ use Rattle.layout.proofs.clear.Goals as goal
 pub returns : goal.returns
 returns g c =
     let image = c.args.image.now in
-    let n = c.args.number.now in
     let w = g.K.Block.ops.size in
-    let v = length n in
     let k = count_of w image in
-    let z = c.fill.ensures.after (λ y p. p) in
-    let l : length image ≡ 2 + w + 514 * k = eqb-true (length image) (2 + w + 514 * k) (and_parts (eqb (length image) (2 + w + 514 * k)) (leb 1 k && leb k 65535) c.requires.sized).0 in
-    let m : (2 + v) - 2 ≡ w = omega (arith, c.requires.number_long) in
-    ap (λ (j : ℕ). put_mid 2 ((2 + v) - 2) (set (set c.fill.new.self 0 67) 1 j) c.copy_from_slice.new.self) c.kind_code.ensures
-    ∙ ap (λ (t : List ℕ). put_mid 2 ((2 + v) - 2) (set (set c.fill.new.self 0 67) 1 w) t) c.copy_from_slice.ensures.after
-    ∙ ap (λ (t : List ℕ). put_mid 2 ((2 + v) - 2) (set (set t 0 67) 1 w) n) z
-    ∙ formatted n (length image) w ((2 + v) - 2) (514 * k) l m
+    let h = c.header_length.result in
+    let l : length image ≡ 2 + w + 514 * k = eqb-true (length image) (2 + w + 514 * k) (and_parts (eqb (length image) (2 + w + 514 * k)) (leb 1 k && leb k 65535) c.requires).0 in
+    let m : h - 2 ≡ w = omega (arith, c.header_length.ensures.value) in
+    ap (λ (j : ℕ). put_mid 2 (h - 2) (set (set c.fill.new.self 0 67) 1 j) c.store.new.into) c.kind_code.ensures
+    ∙ ap (λ (t : List ℕ). put_mid 2 (h - 2) (set (set c.fill.new.self 0 67) 1 w) t) c.store.ensures
+    ∙ ap (λ (t : List ℕ). put_mid 2 (h - 2) (set (set t 0 67) 1 w) (g.K.Block.ops.bytes c.args.number)) (c.fill.ensures.after (λ y p. p))
+    ∙ formatted (g.K.Block.ops.bytes c.args.number) (length image) w (h - 2) (514 * k) l m
