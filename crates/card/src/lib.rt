@@ -12,7 +12,7 @@ use cipher::Cipher;
 use fault::Fault;
 use kind::Block;
 use layout::{RECORD_LENGTH, SECTOR_LENGTH};
-use sector::{Ring, check_ring_and_image, check_sector, load_text, store_text};
+use sector::{Card, Ring};
 
 pub mod window;
 
@@ -25,7 +25,7 @@ pub fn format<C: Cipher>(image: &mut [u8], number: &[u8]) -> Result<(), Fault>
     if number.len() != C::Block::size() {
         return Err(Fault::CardNumberLength);
     }
-    layout::clear::<C::Block>(image, number);
+    layout::clear(image, C::Block::load(number));
     Ok(())
 }
 
@@ -35,9 +35,9 @@ pub fn open<C: Cipher>(image: &[u8], ring: &Ring<'_, C>) -> Result<(), Fault>
     ensures outcome { result ≡ outcome_on (sectors C.Block.ops C.enc C.dec) (ciphers_of ring.now) image.now Opening }
     ensures opens { IsRing (ciphers_of ring.now) → OpensExactlyCards (sectors C.Block.ops C.enc C.dec) (ciphers_of ring.now) image.now result }
 {
-    let count = check_ring_and_image(image, ring)?;
-    for sector in 0..count {
-        check_sector(image, ring, sector)?;
+    let card = Card::of(image, ring)?;
+    for sector in 0..card.sectors() {
+        card.check(sector)?;
     }
     Ok(())
 }
@@ -53,17 +53,15 @@ pub fn write<C: Cipher>(
 ) -> Result<(), Fault>
     ensures { Acts (sectors C.Block.ops C.enc C.dec) (ciphers_of ring.now) image.old (Writing sector key text.now) result image.new }
 {
-    let count = check_ring_and_image(image, ring)?;
-    if sector >= count {
-        return Err(Fault::NoSector { sector });
-    }
-    if key >= ring.size() {
-        return Err(Fault::NoKey);
-    }
-    if text.len() != SECTOR_LENGTH {
+    let card = Card::of(image, ring)?;
+    card.has_sector(sector)?;
+    card.has_key(key)?;
+    let Some(text) = text.as_array() else {
         return Err(Fault::TextLength);
-    }
-    store_text(image, ring, sector, key, text)
+    };
+    let record = card.sealed_record(sector, key, text)?;
+    layout::put_record::<C::Block>(image, sector, &record);
+    Ok(())
 }
 
 // Puts a sector's text into the buffer. Refuses 1 to 4, 6, 'the buffer is not 512 bytes', 7, 9, 'the sector is blank', and 13, and leaves the buffer then:
@@ -76,16 +74,13 @@ pub fn read<C: Cipher>(
 ) -> Result<(), Fault>
     ensures { ReadsText (sectors C.Block.ops C.enc C.dec) (ciphers_of ring.now) image.now sector buffer.old result buffer.new }
 {
-    let count = check_ring_and_image(image, ring)?;
-    if sector >= count {
-        return Err(Fault::NoSector { sector });
-    }
+    let card = Card::of(image, ring)?;
+    card.has_sector(sector)?;
     if buffer.len() != SECTOR_LENGTH {
         return Err(Fault::TextLength);
     }
-    let mut own_copy = [0; SECTOR_LENGTH];
-    load_text(image, ring, sector, &mut own_copy)?;
-    buffer.copy_from_slice(&own_copy);
+    let (_, text) = card.text(sector)?;
+    buffer.copy_from_slice(&text);
     Ok(())
 }
 
@@ -98,16 +93,13 @@ pub fn rekey<C: Cipher>(
 ) -> Result<(), Fault>
     ensures { Acts (sectors C.Block.ops C.enc C.dec) (ciphers_of ring.now) image.old (Rekeying sector new_key) result image.new }
 {
-    let count = check_ring_and_image(image, ring)?;
-    if sector >= count {
-        return Err(Fault::NoSector { sector });
-    }
-    if new_key >= ring.size() {
-        return Err(Fault::NoKey);
-    }
-    let mut text = [0; SECTOR_LENGTH];
-    let _old_key = load_text(image, ring, sector, &mut text)?;
-    store_text(image, ring, sector, new_key, &text)
+    let card = Card::of(image, ring)?;
+    card.has_sector(sector)?;
+    card.has_key(new_key)?;
+    let (_old_key, text) = card.text(sector)?;
+    let record = card.sealed_record(sector, new_key, &text)?;
+    layout::put_record::<C::Block>(image, sector, &record);
+    Ok(())
 }
 
 // Gives the destination the source's key number and text. Refuses 1 to 4, the source looked at first, 7, 9, then 13 for the source and for the destination.
@@ -119,18 +111,13 @@ pub fn copy<C: Cipher>(
 ) -> Result<(), Fault>
     ensures { Acts (sectors C.Block.ops C.enc C.dec) (ciphers_of ring.now) image.old (Copying source destination) result image.new }
 {
-    let count = check_ring_and_image(image, ring)?;
-    if source >= count {
-        return Err(Fault::NoSector { sector: source });
-    }
-    if destination >= count {
-        return Err(Fault::NoSector {
-            sector: destination,
-        });
-    }
-    let mut text = [0; SECTOR_LENGTH];
-    let key = load_text(image, ring, source, &mut text)?;
-    store_text(image, ring, destination, key, &text)
+    let card = Card::of(image, ring)?;
+    card.has_sector(source)?;
+    card.has_sector(destination)?;
+    let (key, text) = card.text(source)?;
+    let record = card.sealed_record(destination, key, &text)?;
+    layout::put_record::<C::Block>(image, destination, &record);
+    Ok(())
 }
 
 // Makes a sector blank. Refuses 2 to 4; it needs no ring.
@@ -141,7 +128,6 @@ pub fn erase<C: Cipher>(image: &mut [u8], sector: usize) -> Result<(), Fault>
     if sector >= count {
         return Err(Fault::NoSector { sector });
     }
-    let start = layout::record_start::<C::Block>(sector);
-    image[start..start + RECORD_LENGTH].fill(0);
+    layout::put_record::<C::Block>(image, sector, &[0; RECORD_LENGTH]);
     Ok(())
 }

@@ -88,10 +88,10 @@ pub fn check_header<K: Block>(image: &[u8]) -> Result<usize, Fault>
     Ok(count)
 }
 
-// The card number of an image that is at least a header long: a block of the kind.
+// The card number of an image that is at least a header long, which is a block of the kind.
 pub fn card_number<K: Block>(image: &[u8]) -> K
     requires { header_length K.ops.size ≤ length image.now }
-    ensures { result ≡ K.ops.block (card_number_of K.ops.size image.now) }
+    ensures { K.ops.bytes result ≡ card_number_of K.ops.size image.now }
 {
     K::load(&image[NUMBER_START..header_length::<K>()])
 }

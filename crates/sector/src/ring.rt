@@ -1,10 +1,10 @@
 // The ring: the ciphers that a card is used with.
-ghost use Rattle.std.specs.Prelude.{◌≡◌, ℕ, ◌<◌, length, slice_index_or};
+ghost use Rattle.std.specs.Prelude.{◌≡◌, ℕ, length};
 
 // One to eight ciphers of one type; a key number is a place among them. A ring of another size can be made, and each call that looks at it refuses 1.
 #[derive(Drop)]
 pub struct Ring<'a, C> {
-    ciphers: &'a [C],
+    pub(crate) ciphers: &'a [C],
 }
 
 impl<'a, C> Ring<'a, C> {
@@ -20,13 +20,5 @@ impl<'a, C> Ring<'a, C> {
         ensures { result ≡ length self.now.ciphers.now }
     {
         self.ciphers.len()
-    }
-
-    // The cipher of a key number on the ring.
-    pub(crate) fn cipher(&self, key: usize) -> &C
-        requires { key < length self.now.ciphers.now }
-        ensures { result.now ≡ slice_index_or self.now.ciphers.now key result.now }
-    {
-        &self.ciphers[key]
     }
 }

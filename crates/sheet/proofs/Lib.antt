@@ -1,5 +1,4 @@
 -- Lemmas that the crates above use too.
-pub mod Bytes
 pub mod Lawful
 pub mod Records
 pub mod Views

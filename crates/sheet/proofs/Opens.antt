@@ -10,7 +10,7 @@ use Rattle.sheet.specs.Images.{image_view, image_after, final_image, answers_on,
 use Rattle.layout.specs.Layout.{header_of}
 use Rattle.layout.specs.Checks.{verdict}
 use Rattle.layout.specs.Layout.{count_of, is_sized, is_headed, card_number_of, record_start, record_at}
-use Rattle.sheet.proofs.Bytes.{bytes_drop, bytes_take}
+use Rattle.layout.proofs.Bytes.{bytes_drop, bytes_take}
 use Rattle.layout.proofs.Parts.{two_first}
 use Rattle.sheet.proofs.Records.{Passes, record_says}
 use Rattle.layout.proofs.Verdicts.{Passed, accepted, accepts}

@@ -10,7 +10,7 @@ use Rattle.sheet.specs.Sectors.{Sectors, LawfulSectors}
 use Rattle.sheet.specs.Promise.{Sector, blank, holds, sealed_by, unsealed_by, dead_by, record_of, records, Sealable, AllSealable}
 use Rattle.sheet.specs.Images.{is_own_mark, sector_of}
 use Rattle.layout.specs.Layout.{is_blank_mark, zeros}
-use Rattle.sheet.proofs.Bytes.{bytes_drop}
+use Rattle.layout.proofs.Bytes.{bytes_drop}
 use Rattle.layout.proofs.Parts.{drop_past, put_mid_past, put_mid_first, same_parts, two_first, zeros_are, zeros_of}
 
 -- the cipher at place k of a ring

@@ -10,6 +10,5 @@ use Rattle.card.proofs.open.Given as goal
 abbrev pub invariant-loop-sector : goal.invariant-loop-sector
 invariant-loop-sector g l =
     let S = sectors g.C.Block.Block.ops g.C.Cipher.enc g.C.Cipher.dec in
-    let ring = ciphers_of l.ring in
-    let v = image_view S ring l.image in
-    verdict (sector_checks S ring v l.sector (l.count - l.sector)) ≡ verdict (sector_checks S ring v 0 l.count)
+    let v = image_view S (ciphers_of l.fn.ring) l.fn.image in
+    verdict (sector_checks S (ciphers_of l.fn.ring) v l.sector (l.card.count - l.sector)) ≡ verdict (sector_checks S (ciphers_of l.fn.ring) v 0 l.card.count)

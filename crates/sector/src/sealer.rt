@@ -1,0 +1,51 @@
+// How one sector of a card is sealed.
+ghost use Rattle.std.specs.Prelude.{◌≡◌};
+ghost use Rattle.fault.specs.Faults.{refused_if};
+ghost use Rattle.sealing.specs.Texts.{text_sealing};
+
+use cipher::Cipher;
+use fault::{NoInverse, SealFault};
+use kind::Block;
+use layout::SECTOR_LENGTH;
+
+// A cipher and the tweak of a sector.
+#[derive(Drop)]
+pub(crate) struct Sealer<'a, C: Cipher> {
+    pub(crate) cipher: &'a C,
+    pub(crate) tweak: C::Block,
+}
+
+impl<C: Cipher> Sealer<'_, C> {
+    // Refuses 13, 'the tweak is dead'.
+    pub(crate) fn check(&self) -> Result<(), SealFault>
+        ensures { result ≡ refused_if ((text_sealing C.Block.ops C.enc C.dec).dead self.now.cipher.now (C.Block.ops.bytes self.now.tweak)) }
+    {
+        match self.cipher.encrypt(self.tweak).inverse() {
+            Some(_) => Ok(()),
+            None => Err(SealFault::DeadTweak { cause: NoInverse }),
+        }
+    }
+
+    // Seals the text in its place. Refuses 13, 'the tweak is dead', and leaves the text then.
+    pub(crate) fn seal(&self, text: &mut [u8; SECTOR_LENGTH]) -> Result<(), SealFault>
+        ensures outcome { result ≡ refused_if ((text_sealing C.Block.ops C.enc C.dec).dead self.now.cipher.now (C.Block.ops.bytes self.now.tweak)) }
+        ensures sealed { text.new ≡ (text_sealing C.Block.ops C.enc C.dec).sealed self.now.cipher.now (C.Block.ops.bytes self.now.tweak) text.old }
+    {
+        // Kept: room for the longest block, of which a block of this kind takes the front; nothing here is on a heap.
+        let mut room = [0; 128];
+        let tweak = &mut room[..C::Block::size()];
+        self.tweak.store(tweak);
+        sealing::seal(self.cipher, tweak, text)
+    }
+
+    // Unseals the text in its place. Refuses 13, 'the tweak is dead', and leaves the sealed bytes then.
+    pub(crate) fn unseal(&self, text: &mut [u8; SECTOR_LENGTH]) -> Result<(), SealFault>
+        ensures outcome { result ≡ refused_if ((text_sealing C.Block.ops C.enc C.dec).dead self.now.cipher.now (C.Block.ops.bytes self.now.tweak)) }
+        ensures unsealed { text.new ≡ (text_sealing C.Block.ops C.enc C.dec).unsealed self.now.cipher.now (C.Block.ops.bytes self.now.tweak) text.old }
+    {
+        let mut room = [0; 128];
+        let tweak = &mut room[..C::Block::size()];
+        self.tweak.store(tweak);
+        sealing::unseal(self.cipher, tweak, text)
+    }
+}
