@@ -1,4 +1,5 @@
 -- The definitions that contracts on scripts cite.
 pub mod Hex
+pub mod Names
 pub mod Sizes
 pub mod Told

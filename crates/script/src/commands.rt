@@ -2,10 +2,12 @@
 ghost use Rattle.std.specs.Prelude.{◌≤◌, IfOk};
 
 use crate::hex::from_hex;
+use crate::lines::Statements;
 use crate::problems::{Problem, Wrong};
 use crate::sizes::MOST_SECTORS;
 use std::alloc::Global;
 use std::fmt;
+use std::str::SplitWhitespace;
 
 // Where the text of a write comes from.
 #[derive(Drop)]
@@ -58,178 +60,127 @@ pub struct Line {
     pub command: Command,
 }
 
-fn number_of(word: Option<&str>, line: usize) -> Result<usize, Problem> {
-    let Some(word) = word else {
-        return Err(Problem::Line {
-            line,
-            wrong: Wrong::TooFewWords,
-        });
-    };
-    match word.parse::<usize>() {
-        Ok(n) => Ok(n),
-        Err(_) => Err(Problem::Line {
-            line,
-            wrong: Wrong::NotANumber,
-        }),
-    }
+// The words of a line, read from left to right. What is wrong with one is told with the number of the line.
+#[derive(Drop)]
+struct Words<'a> {
+    heap: Global,
+    line: usize,
+    words: SplitWhitespace<'a>,
 }
 
-fn sectors_of(word: Option<&str>, line: usize) -> Result<usize, Problem>
-    ensures { IfOk result (λ n. n ≤ 65536) }
-{
-    let sectors = number_of(word, line)?;
-    if sectors > MOST_SECTORS {
-        return Err(Problem::Line {
-            line,
-            wrong: Wrong::TooManySectors,
-        });
+impl<'a> Words<'a> {
+    // The next word.
+    fn word(&mut self) -> Result<&'a str, Problem> {
+        self.words.next().ok_or(Wrong::TooFewWords.on(self.line))
     }
-    Ok(sectors)
-}
 
-fn bytes_of(heap: Global, word: Option<&str>, line: usize) -> Result<Vec<u8>, Problem> {
-    let Some(word) = word else {
-        return Err(Problem::Line {
-            line,
-            wrong: Wrong::TooFewWords,
-        });
-    };
-    match from_hex(heap, word.as_bytes())? {
-        Some(bytes) => Ok(bytes),
-        None => Err(Problem::Line {
-            line,
-            wrong: Wrong::NotHex,
-        }),
+    // The next word as a number.
+    fn number(&mut self) -> Result<usize, Problem> {
+        let word = self.word()?;
+        word.parse().map_err(|_| Wrong::NotANumber.on(self.line))
     }
-}
 
-fn source_of(heap: Global, word: Option<&str>, line: usize) -> Result<Source, Problem> {
-    if let Some(text) = word {
-        if let Some(name) = text.strip_prefix('@') {
-            return Ok(Source::File(String::from_str(heap, name)?));
+    // The next word as a number of sectors that a format may ask for.
+    fn sectors(&mut self) -> Result<usize, Problem>
+        ensures { IfOk result (λ n. n ≤ 65536) }
+    {
+        let sectors = self.number()?;
+        if sectors > MOST_SECTORS {
+            return Err(Wrong::TooManySectors.on(self.line));
+        }
+        Ok(sectors)
+    }
+
+    // The next word as the bytes that it spells.
+    fn bytes(&mut self) -> Result<Vec<u8>, Problem> {
+        let word = self.word()?;
+        self.spelled(word)
+    }
+
+    // The bytes that a word of hexadecimal digits spells.
+    fn spelled(&self, word: &str) -> Result<Vec<u8>, Problem> {
+        from_hex(self.heap, word.as_bytes())?.ok_or(Wrong::NotHex.on(self.line))
+    }
+
+    // The next word as a text's source: the file that it names after an @, or the bytes that it spells.
+    fn source(&mut self) -> Result<Source, Problem> {
+        let word = self.word()?;
+        match word.strip_prefix('@') {
+            Some(name) => Ok(Source::File(String::from_str(self.heap, name)?)),
+            None => Ok(Source::Bytes(self.spelled(word)?)),
         }
     }
-    Ok(Source::Bytes(bytes_of(heap, word, line)?))
-}
 
-fn target_of(heap: Global, word: Option<&str>, line: usize) -> Result<Target, Problem> {
-    match word {
-        None => Ok(Target::Nowhere),
-        Some("show") => Ok(Target::Shown),
-        Some(text) => match text.strip_prefix('@') {
-            Some(name) => Ok(Target::File(String::from_str(heap, name)?)),
-            None => Err(Problem::Line {
-                line,
-                wrong: Wrong::TooManyWords,
+    // The next word as a place for a text, which is nowhere if there is no word more.
+    fn target(&mut self) -> Result<Target, Problem> {
+        match self.words.next() {
+            None => Ok(Target::Nowhere),
+            Some("show") => Ok(Target::Shown),
+            Some(word) => match word.strip_prefix('@') {
+                Some(name) => Ok(Target::File(String::from_str(self.heap, name)?)),
+                None => Err(Wrong::TooManyWords.on(self.line)),
+            },
+        }
+    }
+
+    // Refuses a word too many.
+    fn end(&mut self) -> Result<(), Problem> {
+        match self.words.next() {
+            None => Ok(()),
+            Some(_) => Err(Wrong::TooManyWords.on(self.line)),
+        }
+    }
+
+    // The call that the first word names, with the words that it needs.
+    fn command(&mut self) -> Result<Command, Problem> {
+        match self.words.next() {
+            Some("format") => Ok(Command::Format {
+                sectors: self.sectors()?,
+                number: self.bytes()?,
             }),
-        },
+            Some("open") => Ok(Command::Open),
+            Some("write") => Ok(Command::Write {
+                sector: self.number()?,
+                key: self.number()?,
+                text: self.source()?,
+            }),
+            Some("read") => Ok(Command::Read {
+                sector: self.number()?,
+                to: self.target()?,
+            }),
+            Some("rekey") => Ok(Command::Rekey {
+                sector: self.number()?,
+                key: self.number()?,
+            }),
+            Some("copy") => Ok(Command::Copy {
+                from: self.number()?,
+                to: self.number()?,
+            }),
+            Some("erase") => Ok(Command::Erase {
+                sector: self.number()?,
+            }),
+            _ => Err(Wrong::UnknownCall.on(self.line)),
+        }
     }
 }
 
-fn format_of(
-    heap: Global,
-    first: Option<&str>,
-    second: Option<&str>,
-    line: usize,
-) -> Result<Command, Problem> {
-    Ok(Command::Format {
-        sectors: sectors_of(first, line)?,
-        number: bytes_of(heap, second, line)?,
-    })
-}
-
-fn write_of(
-    heap: Global,
-    first: Option<&str>,
-    second: Option<&str>,
-    third: Option<&str>,
-    line: usize,
-) -> Result<Command, Problem> {
-    Ok(Command::Write {
-        sector: number_of(first, line)?,
-        key: number_of(second, line)?,
-        text: source_of(heap, third, line)?,
-    })
-}
-
-fn read_of(
-    heap: Global,
-    first: Option<&str>,
-    second: Option<&str>,
-    line: usize,
-) -> Result<Command, Problem> {
-    Ok(Command::Read {
-        sector: number_of(first, line)?,
-        to: target_of(heap, second, line)?,
-    })
-}
-
-fn rekey_of(first: Option<&str>, second: Option<&str>, line: usize) -> Result<Command, Problem> {
-    Ok(Command::Rekey {
-        sector: number_of(first, line)?,
-        key: number_of(second, line)?,
-    })
-}
-
-fn copy_of(first: Option<&str>, second: Option<&str>, line: usize) -> Result<Command, Problem> {
-    Ok(Command::Copy {
-        from: number_of(first, line)?,
-        to: number_of(second, line)?,
-    })
-}
-
-fn erase_of(first: Option<&str>, line: usize) -> Result<Command, Problem> {
-    Ok(Command::Erase {
-        sector: number_of(first, line)?,
-    })
-}
-
+// The call of a line.
 fn parse_command(heap: Global, text: &str, line: usize) -> Result<Command, Problem> {
-    let mut words = text.split_whitespace();
-    let call = words.next();
-    let first = words.next();
-    let second = words.next();
-    let third = words.next();
-    let fourth = words.next();
-    let (command, most) = match call {
-        Some("format") => (format_of(heap, first, second, line)?, 2),
-        Some("open") => (Command::Open, 0),
-        Some("write") => (write_of(heap, first, second, third, line)?, 3),
-        Some("read") => (read_of(heap, first, second, line)?, 2),
-        Some("rekey") => (rekey_of(first, second, line)?, 2),
-        Some("copy") => (copy_of(first, second, line)?, 2),
-        Some("erase") => (erase_of(first, line)?, 1),
-        _ => return Err(Problem::Line {
-            line,
-            wrong: Wrong::UnknownCall,
-        }),
+    let mut words = Words {
+        heap,
+        line,
+        words: text.split_whitespace(),
     };
-    let extra = match most {
-        0 => first,
-        1 => second,
-        2 => third,
-        _ => fourth,
-    };
-    if extra.is_some() {
-        return Err(Problem::Line {
-            line,
-            wrong: Wrong::TooManyWords,
-        });
-    }
+    let command = words.command()?;
+    words.end()?;
     Ok(command)
 }
 
 // The calls of a script. A wrong line is told by its number.
 pub fn parse_script(heap: Global, text: &str) -> Result<Vec<Line>, Problem> {
     let mut lines = Vec::new(heap);
-    let mut line: usize = 0;
-    for raw in text.lines() {
-        line = line.saturating_add(1);
-        let content = raw.trim();
-        if content.is_empty() || content.starts_with('#') {
-            continue;
-        }
-        let command = parse_command(heap, content, line)?;
+    for (line, words) in Statements::new(text) {
+        let command = parse_command(heap, words, line)?;
         lines.push(Line { line, command })?;
     }
     Ok(lines)

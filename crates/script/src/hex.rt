@@ -5,6 +5,7 @@ ghost use Rattle.script.specs.Hex.{digit_value, byte_at, SpelledBy};
 use std::alloc::{AllocError, Global};
 use std::fmt;
 
+// The value of a digit, small or capital.
 fn digit_value(digit: u8) -> Option<u8>
     ensures { result ≡ digit_value digit }
 {
@@ -16,13 +17,13 @@ fn digit_value(digit: u8) -> Option<u8>
     }
 }
 
-// The byte that the pair of digits at place i spells.
-fn byte_at(text: &[u8], i: usize) -> Option<u8>
-    requires { 2 * i + 1 < length text.now }
-    ensures { result ≡ byte_at text.now i }
+// The byte that a pair of digits spells.
+fn byte_of(pair: &[u8; 2]) -> Option<u8>
+    ensures { result ≡ byte_at pair.now 0 }
 {
-    let high = digit_value(text[2 * i])?;
-    let low = digit_value(text[2 * i + 1])?;
+    let [high, low] = *pair;
+    let high = digit_value(high)?;
+    let low = digit_value(low)?;
     Some(16 * high + low)
 }
 
@@ -30,13 +31,13 @@ fn byte_at(text: &[u8], i: usize) -> Option<u8>
 pub fn from_hex(heap: Global, text: &[u8]) -> Result<Option<Vec<u8>>, AllocError>
     ensures { IfOk result (SpelledBy text.now) }
 {
-    if text.len() % 2 != 0 {
+    let (pairs, rest) = text.as_chunks::<2>();
+    if !rest.is_empty() {
         return Ok(None);
     }
-    let count = text.len() / 2;
     let mut bytes = Vec::new(heap);
-    for i in 0..count {
-        let Some(byte) = byte_at(text, i) else {
+    for pair in pairs {
+        let Some(byte) = byte_of(pair) else {
             return Ok(None);
         };
         bytes.push(byte)?;

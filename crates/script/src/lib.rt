@@ -3,6 +3,7 @@
 
 mod commands;
 mod hex;
+mod lines;
 mod problems;
 mod rings;
 mod sizes;

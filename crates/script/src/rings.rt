@@ -1,10 +1,13 @@
 // A ring in a file: the cipher's name on a line, then a key to a line, in hexadecimal digits. Blank lines and lines that begin with # say nothing.
 ghost use Rattle.std.specs.Prelude.{◌≡◌, IfOk, vec_len};
+ghost use Rattle.script.specs.Names.{Named};
 ghost use Rattle.script.specs.Sizes.{key_length};
 
 use crate::hex::from_hex;
+use crate::lines::Statements;
 use crate::problems::{Problem, Wrong};
 use std::alloc::Global;
+use std::str::FromStr;
 
 #[derive(Clone, Copy, PartialEq, Eq, Debug)]
 pub enum CipherName {
@@ -32,66 +35,48 @@ pub struct Keys {
     pub keys: Vec<Vec<u8>>,
 }
 
-fn is_remark(line: &str) -> bool {
-    line.is_empty() || line.starts_with('#')
-}
+impl FromStr for CipherName {
+    type Err = Wrong;
 
-fn cipher_named(name: &str) -> Option<CipherName> {
-    match name {
-        "aes" => Some(CipherName::Aes),
-        "xtea" => Some(CipherName::Xtea),
-        "whitened" => Some(CipherName::Whitened),
-        _ => None,
+    ghost from_str_gives = { Named };
+
+    // The cipher of this name.
+    fn from_str(name: &str) -> Result<CipherName, Wrong> {
+        match name {
+            "aes" => Ok(CipherName::Aes),
+            "xtea" => Ok(CipherName::Xtea),
+            "whitened" => Ok(CipherName::Whitened),
+            _ => Err(Wrong::UnknownCipher),
+        }
     }
 }
 
-fn parse_key(heap: Global, cipher: CipherName, text: &str, line: usize) -> Result<Vec<u8>, Problem>
+// The key that a line's digits spell, of the cipher's length.
+fn parse_key(
+    heap: Global,
+    cipher: CipherName,
+    digits: &str,
+    line: usize,
+) -> Result<Vec<u8>, Problem>
     ensures { IfOk result (λ key. vec_len key ≡ key_length cipher) }
 {
-    let Some(key) = from_hex(heap, text.as_bytes())? else {
-        return Err(Problem::Line {
-            line,
-            wrong: Wrong::NotHex,
-        });
-    };
+    let key = from_hex(heap, digits.as_bytes())?.ok_or(Wrong::NotHex.on(line))?;
     if key.len() != cipher.key_length() {
-        return Err(Problem::Line {
-            line,
-            wrong: Wrong::KeyLength,
-        });
+        return Err(Wrong::KeyLength.on(line));
     }
     Ok(key)
 }
 
 // The ring that a file's text gives. A wrong line is told by its number.
 pub fn parse_ring(heap: Global, text: &str) -> Result<Keys, Problem> {
-    let mut cipher: Option<CipherName> = None;
+    let mut lines = Statements::new(text);
+    let Some((line, name)) = lines.next() else {
+        return Err(Wrong::NoCipher.on(text.lines().count()));
+    };
+    let cipher: CipherName = name.parse().map_err(|wrong: Wrong| wrong.on(line))?;
     let mut keys = Vec::new(heap);
-    let mut line: usize = 0;
-    for raw in text.lines() {
-        line = line.saturating_add(1);
-        let content = raw.trim();
-        if is_remark(content) {
-            continue;
-        }
-        match cipher {
-            None => {
-                let Some(name) = cipher_named(content) else {
-                    return Err(Problem::Line {
-                        line,
-                        wrong: Wrong::UnknownCipher,
-                    });
-                };
-                cipher = Some(name);
-            }
-            Some(name) => keys.push(parse_key(heap, name, content, line)?)?,
-        }
+    for (line, digits) in lines {
+        keys.push(parse_key(heap, cipher, digits, line)?)?;
     }
-    match cipher {
-        None => Err(Problem::Line {
-            line,
-            wrong: Wrong::NoCipher,
-        }),
-        Some(cipher) => Ok(Keys { cipher, keys }),
-    }
+    Ok(Keys { cipher, keys })
 }

@@ -29,12 +29,8 @@ fn image_length(cipher: CipherName, sectors: usize) -> usize
 // The length of an image that a line asks for, if it is a format.
 fn wanted(cipher: CipherName, line: &Line) -> Option<usize> {
     match line.command {
-        Command::Format { sectors, .. } => {
-            if sectors <= MOST_SECTORS {
-                Some(image_length(cipher, sectors))
-            } else {
-                None
-            }
+        Command::Format { sectors, .. } if sectors <= MOST_SECTORS => {
+            Some(image_length(cipher, sectors))
         }
         _ => None,
     }
@@ -42,18 +38,13 @@ fn wanted(cipher: CipherName, line: &Line) -> Option<usize> {
 
 // The length of the image that a script makes, where it begins with a format.
 pub fn first_length(cipher: CipherName, lines: &[Line]) -> Option<usize> {
-    let first = lines.first()?;
-    wanted(cipher, first)
+    wanted(cipher, lines.first()?)
 }
 
 // The first line with a format for an image of another length than this.
 pub fn other_size(cipher: CipherName, lines: &[Line], length: usize) -> Option<usize> {
-    for line in lines {
-        if let Some(size) = wanted(cipher, line) {
-            if size != length {
-                return Some(line.line);
-            }
-        }
-    }
-    None
+    lines
+        .iter()
+        .find(|line| wanted(cipher, line).is_some_and(|size| size != length))
+        .map(|line| line.line)
 }

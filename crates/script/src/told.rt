@@ -11,6 +11,7 @@ pub struct Told {
     pub outcome: Result<(), Fault>,
 }
 
+// Kept: one word for each of two cases, told here alone; an `impl Display` in the layers' own crate would be longer.
 fn layer_word(layer: Layer) -> &'static str
     ensures { result.now ≡ layer_word layer }
 {
@@ -30,15 +31,13 @@ impl fmt::Display for Told {
         let number = fault.number();
         let layer = layer_word(fault.layer());
         let sentence = fault.sentence();
-        match fault.sector() {
-            None => write!(f, "refused {number} {layer}: {sentence}"),
-            Some(sector) => match fault.key() {
-                None => write!(f, "refused {number} {layer} sector {sector}: {sentence}"),
-                Some(key) => write!(
-                    f,
-                    "refused {number} {layer} sector {sector} key {key}: {sentence}"
-                ),
-            },
+        write!(f, "refused {number} {layer}")?;
+        if let Some(sector) = fault.sector() {
+            write!(f, " sector {sector}")?;
         }
+        if let Some(key) = fault.key() {
+            write!(f, " key {key}")?;
+        }
+        write!(f, ": {sentence}")
     }
 }

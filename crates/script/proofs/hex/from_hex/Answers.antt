@@ -1,16 +1,29 @@
--- One more byte at the end leaves those before it.
-use Rattle.std.proofs.Common.{ℕ, ◌<◌, List, [], ◌∷◌, length, get_or, Some, vec_items, sym, ap, ◌∙◌, arith, rules, below_more}
-use Rattle.std.proofs.lemmas.List.{get_or_append_left, get_or_push}
+-- One more byte at the end leaves those before it, and the pairs are those of the whole text.
+use Rattle.std.proofs.Common.{ℕ, ◌<◌, List, [], length, get_or, sym, ap, ◌∙◌, arith, rules, below_more, ◌≡◌, ◌*◌, ◌/◌}
+use Rattle.std.proofs.lemmas.Grind.{common_steps}
+use Rattle.std.proofs.lemmas.Bool.Decides.{nat_tests}
+use Rattle.script.specs.Hex.{byte_at}
+use Rattle.script.proofs.Pairs.{byte_of_pair}
 use Rattle.script.proofs.hex.from_hex.Goals as goal
 
-pub loop-i-preserved : goal.loop-i-preserved
-loop-i-preserved c =
-    let xs : List ℕ = vec_items c.loop-i.bytes in
-    let more = c.in_ok-push.ensures.items in (
-      search rules,
-      below_more _ _
-          (λ k h.
-          let l : k < length xs = omega (arith, c.loop-i.invariant.0) in
-          c.loop-i.invariant.1 k h ∙ ap Some (sym (ap (λ v. get_or v k 0) more ∙ get_or_append_left xs (c.in-Some.byte ∷ []) 0 k l)))
-          (sym c.in-Some.ensures ∙ ap Some (sym (ap (λ v. get_or v c.loop-i.i 0) more ∙ get_or_push xs c.in-Some.byte 0 c.loop-i.i c.loop-i.invariant.0))),
-    )
+pub loop-pair-preserved : goal.loop-pair-preserved
+loop-pair-preserved c = (
+  search rules,
+  below_more _ _ (λ k h. let l = c.loop-pair.invariant.1 k h in grind (arith, common_steps)) (grind (arith, common_steps)),
+)
+
+pub returns : goal.returns
+returns c =
+    let text = c.args.text.now in
+    let n = length text / 2 in
+    let pairs = c.as_chunks.ensures.front in
+    let long : length text ≡ 2 * length c.loop-pair.bytes.items = grind (arith, nat_tests) in
+    record {
+      long = long;
+      each =
+          λ k h.
+          let l : k < n = omega (arith, long) in
+          sym (byte_of_pair n k text l)
+          ∙ ap (λ (ps : List (List ℕ)). byte_at (get_or ps k []) 0) (sym pairs)
+          ∙ c.loop-pair.invariant.1 k (omega (arith, c.loop-pair.invariant.0));
+    }

@@ -1,9 +1,9 @@
--- The bytes so far are spelled by the digits so far.
-use Rattle.std.proofs.Common.{◌≡◌, ℕ, ◌<◌, length, get_or, Some, vec_items}
+-- The bytes so far are spelled by the pairs so far.
+use Rattle.std.proofs.Common.{◌≡◌, ℕ, ◌<◌, [], length, get_or, Some}
 use Rattle.script.specs.Hex.{byte_at}
 use Rattle.script.proofs.hex.from_hex.Given as goal
 
-abbrev pub invariant-loop-i : goal.invariant-loop-i
-invariant-loop-i l =
-    (length (vec_items l.bytes) ≡ l.i)
-    × ((k : ℕ) → k < l.i → byte_at l.text k ≡ Some (get_or (vec_items l.bytes) k 0))
+abbrev pub invariant-loop-pair : goal.invariant-loop-pair
+invariant-loop-pair l =
+    (length l.bytes.items ≡ l.pair-index)
+    × ((k : ℕ) → k < l.pair-index → byte_at (get_or l.pairs k []) 0 ≡ Some (get_or l.bytes.items k 0))

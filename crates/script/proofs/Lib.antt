@@ -1,0 +1,2 @@
+-- Lemmas on hexadecimal digits.
+pub mod Pairs
