@@ -2,58 +2,32 @@
 #![tactic(auto)]
 
 use aes::Aes;
-use anyhow::anyhow;
+use anyhow::{Context, anyhow, bail};
 use calls::{Call, Step};
 use capi::whitened_under;
-use cipher::Whitened;
-use poly::Field;
+use cipher::Cipher;
+use failure::Failure;
 use script::{CipherName, Command, Keys, Line, Problem, Source, Target, Told, Wrong, push_hex};
 use sector::Ring;
 use std::alloc::{AllocError, Global};
 use std::rt::Files;
-use std::{env, fmt, fs};
+use std::{env, fs};
 use xtea::Xtea;
 
 const USAGE: &str = "usage: cardlock IMAGE RING SCRIPT (docs/cardlock.md says what they hold)";
 
 fn main(rt: HostRuntime) -> Result<(), Failure> {
-    run(&rt).map_err(|error| Failure {
-        text: format!(in rt.alloc(); "{error}"),
-    })
+    run(&rt).map_err(|error| Failure::new(rt.alloc(), error))
 }
 
-// What ends the program with status 1. It is printed as the error's text in quotes.
-#[derive(Drop)]
-struct Failure {
-    text: Result<String, AllocError>,
-}
-
-impl fmt::Debug for Failure {
-    fn fmt<W: fmt::Write>(&self, f: &mut fmt::Formatter<W>) -> fmt::Result {
-        match &self.text {
-            Ok(text) => write!(f, "{text:?}"),
-            Err(_) => write!(f, "\"there is no memory\""),
-        }
-    }
-}
-
+// Runs the script that the program's words name, and prints what came of each call.
 fn run(rt: &HostRuntime) -> anyhow::Result<()> {
-    let mut words = env::args(rt)?;
-    let _program = words.next();
-    let Some(image_name) = words.next() else {
-        return Err(anyhow!(USAGE));
+    let words: Vec<String> = env::args(rt)?.collect(rt.alloc())?;
+    let [_program, image_name, ring_name, script_name] = words.as_slice() else {
+        bail!(USAGE);
     };
-    let Some(ring_name) = words.next() else {
-        return Err(anyhow!(USAGE));
-    };
-    let Some(script_name) = words.next() else {
-        return Err(anyhow!(USAGE));
-    };
-    if words.next().is_some() {
-        return Err(anyhow!(USAGE));
-    }
-    let keys = load_ring(rt, ring_name.as_str())?;
-    let lines = load_script(rt, script_name.as_str())?;
+    let keys = load(rt, ring_name.as_str(), script::parse_ring)?;
+    let lines = load(rt, script_name.as_str(), script::parse_script)?;
     let before = load_image(
         rt,
         image_name.as_str(),
@@ -72,13 +46,13 @@ fn run(rt: &HostRuntime) -> anyhow::Result<()> {
         image.as_mut_slice(),
         steps.as_mut_slice(),
     )?;
-    for (line, step) in lines.as_slice().iter().zip(steps.as_slice().iter()) {
+    for (line, step) in lines.iter().zip(steps.iter()) {
         tell(rt, line, step)?;
     }
-    for (line, step) in lines.as_slice().iter().zip(steps.as_slice().iter()) {
+    for (line, step) in lines.iter().zip(steps.iter()) {
         keep_text(rt, line, step)?;
     }
-    if image.as_slice() == before.as_slice() {
+    if image == before {
         println!(rt; "{image_name}: unchanged")?;
         return Ok(());
     }
@@ -87,49 +61,21 @@ fn run(rt: &HostRuntime) -> anyhow::Result<()> {
     Ok(())
 }
 
-// An error that names a file.
-fn error_in(heap: Global, name: &str, problem: Problem) -> anyhow::Error {
-    match format!(in heap; "{name}: {problem}") {
-        Ok(text) => anyhow!("{text}"),
-        Err(_) => anyhow!("there is no memory"),
-    }
-}
-
-fn no_file(heap: Global, name: &str) -> anyhow::Error {
-    match format!(in heap; "{name}: cannot be read") {
-        Ok(text) => anyhow!("{text}"),
-        Err(_) => anyhow!("there is no memory"),
-    }
-}
-
+// The bytes of a file; an error names it.
 fn read_file(rt: &HostRuntime, name: &str) -> anyhow::Result<Vec<u8>> {
-    match fs::read(rt, name) {
-        Ok(bytes) => Ok(bytes),
-        Err(_) => Err(no_file(rt.alloc(), name)),
-    }
+    fs::read(rt, name).context(format_args!("{name}: cannot be read"))
 }
 
-fn read_text(rt: &HostRuntime, name: &str) -> anyhow::Result<String> {
-    match fs::read_to_string(rt, name) {
-        Ok(text) => Ok(text),
-        Err(_) => Err(no_file(rt.alloc(), name)),
-    }
-}
-
-fn load_ring(rt: &HostRuntime, name: &str) -> anyhow::Result<Keys> {
-    let text = read_text(rt, name)?;
-    match script::parse_ring(rt.alloc(), text.as_str()) {
-        Ok(keys) => Ok(keys),
-        Err(problem) => Err(error_in(rt.alloc(), name, problem)),
-    }
-}
-
-fn load_script(rt: &HostRuntime, name: &str) -> anyhow::Result<Vec<Line>> {
-    let text = read_text(rt, name)?;
-    match script::parse_script(rt.alloc(), text.as_str()) {
-        Ok(lines) => Ok(lines),
-        Err(problem) => Err(error_in(rt.alloc(), name, problem)),
-    }
+// What the text of a file says, read by a parser; an error names the file.
+fn load<T, F: FnOnce(Global, &str) -> Result<T, Problem>>(
+    rt: &HostRuntime,
+    name: &str,
+    parse: F,
+) -> anyhow::Result<T>
+    requires { F.IsAlwaysCallable parse }
+{
+    let text = fs::read_to_string(rt, name).context(format_args!("{name}: cannot be read"))?;
+    parse(rt.alloc(), text.as_str()).map_err(|problem| anyhow!("{name}: {problem}"))
 }
 
 // The bytes that the script runs on: those of the file, or, where the script begins with a format for another size, as many zeros as that card has bytes.
@@ -144,19 +90,16 @@ fn load_image(
     let found = match script::first_length(cipher, lines) {
         None => read_file(rt, name)?,
         Some(length) => match fs::read(rt, name) {
-            Ok(bytes) => {
-                if bytes.len() == length {
-                    bytes
-                } else {
-                    vec![in heap; 0; length]?
-                }
-            }
-            Err(_) => vec![in heap; 0; length]?,
+            Ok(bytes) if bytes.len() == length => bytes,
+            _ => vec![in rt.alloc(); 0; length]?,
         },
     };
     if let Some(line) = script::other_size(cipher, lines, found.len()) {
-        let wrong = Wrong::OtherSectors;
-        return Err(error_in(heap, script_name, Problem::Line { line, wrong }));
+        let problem = Problem::Line {
+            line,
+            wrong: Wrong::OtherSectors,
+        };
+        bail!("{script_name}: {problem}");
     }
     Ok(found)
 }
@@ -199,50 +142,43 @@ fn call_of(rt: &HostRuntime, command: &Command) -> anyhow::Result<Call> {
 // Makes the calls in turn, with the ring's ciphers.
 fn make(heap: Global, keys: &Keys, image: &mut [u8], steps: &mut [Step]) -> Result<(), AllocError> {
     match keys.cipher {
-        CipherName::Aes => {
-            let ciphers = aes_ciphers(heap, keys)?;
-            calls::run(image, &Ring::new(ciphers.as_slice()), steps);
-        }
-        CipherName::Xtea => {
-            let ciphers = xtea_ciphers(heap, keys)?;
-            calls::run(image, &Ring::new(ciphers.as_slice()), steps);
-        }
-        CipherName::Whitened => {
-            let ciphers = whitened_ciphers(heap, keys)?;
-            calls::run(image, &Ring::new(ciphers.as_slice()), steps);
-        }
+        CipherName::Aes => make_by(
+            heap,
+            keys,
+            image,
+            steps,
+            |key| Some(Aes::new(key.first_chunk()?)),
+        ),
+        CipherName::Xtea => make_by(
+            heap,
+            keys,
+            image,
+            steps,
+            |key| Some(Xtea::new(key.first_chunk()?)),
+        ),
+        CipherName::Whitened => make_by(
+            heap,
+            keys,
+            image,
+            steps,
+            |key| Some(whitened_under(key.first_chunk()?)),
+        ),
     }
+}
+
+// Makes the calls in turn, with the cipher that each key gives.
+fn make_by<C: Cipher + Drop, F: FnMut(&Vec<u8>) -> Option<C>>(
+    heap: Global,
+    keys: &Keys,
+    image: &mut [u8],
+    steps: &mut [Step],
+    cipher_of: F,
+) -> Result<(), AllocError>
+    requires { (state : F) (key : _) → F.pre state key }
+{
+    let ciphers: Vec<C> = keys.keys.iter().filter_map(cipher_of).collect(heap)?;
+    calls::run(image, &Ring::new(ciphers.as_slice()), steps);
     Ok(())
-}
-
-fn aes_ciphers(heap: Global, keys: &Keys) -> Result<Vec<Aes>, AllocError> {
-    let mut ciphers = Vec::new(heap);
-    for key in keys.keys.as_slice() {
-        if let Some(key) = key.as_slice().first_chunk::<16>() {
-            ciphers.push(Aes::new(key))?;
-        }
-    }
-    Ok(ciphers)
-}
-
-fn xtea_ciphers(heap: Global, keys: &Keys) -> Result<Vec<Xtea>, AllocError> {
-    let mut ciphers = Vec::new(heap);
-    for key in keys.keys.as_slice() {
-        if let Some(key) = key.as_slice().first_chunk::<16>() {
-            ciphers.push(Xtea::new(key))?;
-        }
-    }
-    Ok(ciphers)
-}
-
-fn whitened_ciphers(heap: Global, keys: &Keys) -> Result<Vec<Whitened<Xtea>>, AllocError> {
-    let mut ciphers = Vec::new(heap);
-    for key in keys.keys.as_slice() {
-        if let Some(key) = key.as_slice().first_chunk::<32>() {
-            ciphers.push(whitened_under(key))?;
-        }
-    }
-    Ok(ciphers)
 }
 
 // Prints a call with its outcome, and a text that was asked for.
@@ -253,38 +189,36 @@ fn tell(rt: &HostRuntime, line: &Line, step: &Step) -> anyhow::Result<()> {
         outcome: step.outcome,
     };
     println!(rt; "line {number}: {command}: {outcome}")?;
-    if step.outcome.is_err() {
-        return Ok(());
-    }
-    if let Command::Read {
-        to: Target::Shown,
-        ..
-    } = command
-    {
-        if let Call::Read { buffer, .. } = &step.call {
-            let mut text = String::new(rt.alloc());
-            push_hex(&mut text, buffer.as_slice())?;
-            println!(rt; "{text}")?;
-        }
+    if let (Some(Target::Shown), Some(text)) = (target(command), text_read(step)) {
+        let mut digits = String::new(rt.alloc());
+        push_hex(&mut digits, text)?;
+        println!(rt; "{digits}")?;
     }
     Ok(())
 }
 
 // Writes the text of an accepted read into the file that the script names.
 fn keep_text(rt: &HostRuntime, line: &Line, step: &Step) -> anyhow::Result<()> {
-    if step.outcome.is_err() {
-        return Ok(());
-    }
-    if let Command::Read {
-        to: Target::File(name),
-        ..
-    } = &line.command
-    {
-        if let Call::Read { buffer, .. } = &step.call {
-            fs::write(rt, name.as_str(), buffer.as_slice())?;
-        }
+    if let (Some(Target::File(name)), Some(text)) = (target(&line.command), text_read(step)) {
+        fs::write(rt, name.as_str(), text)?;
     }
     Ok(())
+}
+
+// Where the text of a read goes.
+fn target(command: &Command) -> Option<&Target> {
+    match command {
+        Command::Read { to, .. } => Some(to),
+        _ => None,
+    }
+}
+
+// The text of an accepted read.
+fn text_read(step: &Step) -> Option<&[u8]> {
+    match (step.outcome, &step.call) {
+        (Ok(()), Call::Read { buffer, .. }) => Some(buffer.as_slice()),
+        _ => None,
+    }
 }
 
 // Puts new bytes in place of a file: they stand complete under another name before they take its place.

@@ -1,39 +1,20 @@
 // The program `manifest`: reads the image of a card with 16-byte blocks from standard input and prints what each sector holds.
 #![tactic(auto)]
 
-use anyhow::anyhow;
+use anyhow::bail;
+use failure::Failure;
 use listing::LONGEST_IMAGE;
 use poly::Wide;
-use std::alloc::AllocError;
+use std::env;
 use std::io::Read;
-use std::{env, fmt};
 
 fn main(rt: HostRuntime) -> Result<(), Failure> {
-    run(&rt).map_err(|error| Failure {
-        text: format!(in rt.alloc(); "{error}"),
-    })
-}
-
-// What ends the program with status 1. It is printed as the error's text in quotes.
-#[derive(Drop)]
-struct Failure {
-    text: Result<String, AllocError>,
-}
-
-impl fmt::Debug for Failure {
-    fn fmt<W: fmt::Write>(&self, f: &mut fmt::Formatter<W>) -> fmt::Result {
-        match &self.text {
-            Ok(text) => write!(f, "{text:?}"),
-            Err(_) => write!(f, "\"there is no memory\""),
-        }
-    }
+    run(&rt).map_err(|error| Failure::new(rt.alloc(), error))
 }
 
 // Prints the manifest of the card on standard input, or, given a word, only the usage. One byte more than a lawful image is enough to see that it is too long.
 fn run(rt: &HostRuntime) -> anyhow::Result<()> {
-    let mut words = env::args(rt)?;
-    let _program = words.next();
-    if let Some(word) = words.next() {
+    if let Some(word) = env::args(rt)?.nth(1) {
         return explain(rt, word.as_str());
     }
     let heap = rt.alloc();
@@ -50,7 +31,7 @@ fn run(rt: &HostRuntime) -> anyhow::Result<()> {
 // Prints the usage for `--help`; any other word is an error.
 fn explain(rt: &HostRuntime, word: &str) -> anyhow::Result<()> {
     if word != "--help" {
-        return Err(anyhow!("manifest takes no arguments; manifest --help says what it reads"));
+        bail!("manifest takes no arguments; manifest --help says what it reads");
     }
     println!(rt; "usage: manifest < IMAGE")?;
     println!(rt;

@@ -1,0 +1,2 @@
+-- The definitions that contracts on failures cite.
+pub mod Printed
