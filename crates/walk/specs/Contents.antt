@@ -29,6 +29,11 @@ abbrev pub on : Outcome → List Outcome → List Outcome
 on (Ok x) rest = Ok x ∷ rest
 on (Err f) rest = Err f ∷ []
 
+-- what comes of these records, the first of which is that of sector s, in order, up to the first refusal
+abbrev pub walk_on : ℕ → List (List ℕ) → List Outcome
+walk_on s [] = []
+walk_on s (r ∷ rs) = on (outcome_of r s) (walk_on (s + 1) rs)
+
 -- the record of sector s of an image whose records begin at start
 abbrev pub record_from : ℕ → List ℕ → ℕ → List ℕ
 record_from start image s = take record_length (drop (start + record_length * s) image)

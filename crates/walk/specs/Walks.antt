@@ -1,12 +1,14 @@
 -- What a walk under way has still to give, and what it means to have given it.
-use Rattle.std.specs.Prelude.{◌≡◌, ◌+◌, ◌-◌, ◌*◌, ◌≤◌, List, [], ◌∷◌, length, Some, None, Ok, Err, Option, Result}
+use Rattle.std.specs.Prelude.{◌≡◌, ℕ, ◌+◌, ◌≤◌, List, [], ◌∷◌, length, Some, None, Ok, Err, Option, Result}
 use Rattle.std.specs.Iterator.{AlwaysYields}
+use Rattle.std.specs.Iterator.Adapters.{enumerate_source, enumerate_count}
+use Rattle.std.specs.Slice.Iter.{iter_rest}
 use Rattle.fault.specs.declared.Fault.{Fault}
 use Rattle.layout.specs.declared.Entry.{Entry}
 use Rattle.layout.specs.declared.Entry.TheVariants.{Blank, Sealed}
-use Rattle.layout.specs.Layout.{record_length, most_sectors}
+use Rattle.layout.specs.Layout.{most_sectors}
 use Rattle.walk.specs.declared.Entries.{Entries}
-use Rattle.walk.specs.Contents.{Content, blank, sealed, Outcome, walk_from}
+use Rattle.walk.specs.Contents.{Content, blank, sealed, Outcome, walk_on}
 
 -- an entry by its values: the sealed bytes themselves in place of the borrow
 abbrev pub held : Entry → Content
@@ -17,14 +19,20 @@ abbrev pub seen : Result Entry Fault → Outcome
 seen (Ok e) = Ok (held e)
 seen (Err f) = Err f
 
--- the records that a walk goes over lie inside its image; every walk that is begun is so, and stays so
+-- the records that a walk has still to go over, and the sector of the first of them
+abbrev pub records_left : Entries → List (List ℕ)
+records_left e = iter_rest (enumerate_source e.records)
+
+abbrev pub next_sector : Entries → ℕ
+next_sector e = enumerate_count e.records
+
+-- the sectors that a walk goes over are those of a card; every walk that is begun is so, and stays so
 pub record Ready (e : Entries) : Type 0 where
-  pub few : e.count ≤ most_sectors
-  pub inside : e.start + record_length * e.count ≤ length e.image.now
+  pub few : next_sector e + length (records_left e) ≤ most_sectors
 
 -- what the walk has still to give, in order
 abbrev pub coming : Entries → List Outcome
-coming e = walk_from e.start e.image.now e.next (e.count - e.next)
+coming e = walk_on (next_sector e) (records_left e)
 
 -- an answer of `next` and what is still to come after it
 abbrev pub answered : Option (Result Entry Fault) → List Outcome → List Outcome

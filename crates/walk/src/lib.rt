@@ -1,23 +1,23 @@
 // The records of a card image, one after another, as entries that borrow from the image. Whoever holds the card needs no key for it.
 #![tactic(auto)]
 
-ghost use Rattle.std.specs.Prelude.{◌≡◌, ℕ, ◌-◌, length, IfOk};
-ghost use Rattle.layout.specs.Layout.{record_length, count_of};
+ghost use Rattle.std.specs.Prelude.{◌≡◌, ℕ, length, IfOk};
+ghost use Rattle.layout.specs.Layout.{count_of};
 ghost use Rattle.walk.specs.Contents.{outcome_of, walk_of};
-ghost use Rattle.walk.specs.Walks.{seen, Ready, coming, Steps, begun, Gives};
+ghost use Rattle.walk.specs.Walks.{seen, records_left, Ready, coming, Steps, begun, Gives};
 ghost use Rattle.std.specs.Iterator.{at_most};
 
 use fault::Fault;
 use kind::Block;
-use layout::{Entry, MARK_LENGTH, MOST_KEYS, RECORD_LENGTH};
+use layout::{Entry, MOST_KEYS, RECORD_LENGTH};
+use std::iter::Enumerate;
+use std::slice::Iter;
 
-// A walk over the records of an image, from the one of sector `next` on.
+// A walk over the records of an image.
 #[derive(Drop)]
 pub struct Entries<'a> {
-    image: &'a [u8],
-    // Where the records begin.
-    start: usize,
-    next: usize,
+    // The records that are still to come, each with its sector.
+    records: Enumerate<Iter<'a, [u8; RECORD_LENGTH]>>,
     count: usize,
 }
 
@@ -40,12 +40,8 @@ pub fn walk<K: Block>(image: &[u8]) -> Result<Entries<'_>, Fault>
     ensures ready { IfOk result Ready }
 {
     let count = layout::check_header::<K>(image)?;
-    Ok(Entries {
-        image,
-        start: layout::header_length::<K>(),
-        next: 0,
-        count,
-    })
+    let records = layout::records::<K>(image).iter().enumerate();
+    Ok(Entries { records, count })
 }
 
 impl<'a> Iterator for Entries<'a> {
@@ -55,39 +51,28 @@ impl<'a> Iterator for Entries<'a> {
 
     ghost next_gives = { Steps };
 
-    ghost remaining = { λ e. at_most (e.count - e.next) };
+    ghost remaining = { λ e. at_most (length (records_left e)) };
 
     // The entry of the next record, or its refusal, after which nothing comes.
     fn next(&mut self) -> Option<Result<Entry<'a>, Fault>> {
-        let sector = self.next;
-        if sector >= self.count {
-            return None;
+        let (sector, record) = self.records.next()?;
+        let outcome = accept(record, sector);
+        if outcome.is_err() {
+            self.records = [].iter().enumerate();
         }
-        let at = self.start + RECORD_LENGTH * sector;
-        let record = &self.image[at..at + RECORD_LENGTH];
-        match accept(record, sector) {
-            Ok(entry) => {
-                self.next = sector + 1;
-                Some(Ok(entry))
-            }
-            Err(fault) => {
-                self.next = self.count;
-                Some(Err(fault))
-            }
-        }
+        Some(outcome)
     }
 }
 
-// The entry of a whole record. Refuses 7, as for a ring of eight, and 8.
-fn accept(record: &[u8], sector: usize) -> Result<Entry<'_>, Fault>
-    requires { length «record».now ≡ record_length }
+// The entry of a record. Refuses 7, as for a ring of eight, and 8.
+fn accept(record: &[u8; RECORD_LENGTH], sector: usize) -> Result<Entry<'_>, Fault>
     ensures { seen result ≡ outcome_of «record».now sector }
 {
     let entry = layout::entry_of(record, MOST_KEYS, sector)?;
-    if let Entry::Blank = entry {
-        if !layout::all_zero(&record[MARK_LENGTH..RECORD_LENGTH]) {
-            return Err(Fault::BlankNotZero { sector });
-        }
+    if let Entry::Blank = entry
+        && !layout::all_zero(layout::behind_mark(record))
+    {
+        return Err(Fault::BlankNotZero { sector });
     }
     Ok(entry)
 }
