@@ -38,13 +38,11 @@ fn list(heap: Global, width: usize, entries: Entries<'_>) -> Result<String, fmt:
     let mut text = String::new(heap);
     let count = entries.sectors();
     write!(text, "card {width} sectors {count}\n")?;
-    let mut sector: usize = 0;
-    for outcome in entries {
+    for (sector, outcome) in entries.enumerate() {
         match outcome {
             Ok(entry) => add_line(&mut text, sector, entry)?,
             Err(fault) => return refusal(heap, fault),
         }
-        sector += 1;
     }
     Ok(text)
 }
