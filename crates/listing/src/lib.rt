@@ -2,7 +2,7 @@
 #![tactic(auto)]
 
 ghost use Rattle.std.specs.Prelude.{◌≡◌, List, [], ◌++◌, IfOk, string_bytes, OnOk};
-ghost use Rattle.walk.specs.Walks.{held, coming, Ready};
+ghost use Rattle.walk.specs.Walks.{held, coming};
 ghost use Rattle.listing.specs.Lines.{card_line, sector_line, refusal_line, listed, manifest_of};
 
 use fault::Fault;
@@ -32,7 +32,6 @@ pub fn manifest<K: Block>(heap: Global, image: &[u8]) -> Result<String, fmt::Err
 
 // The manifest of a walk that was begun on a card with blocks of this many bytes.
 fn list(heap: Global, width: usize, entries: Entries<'_>) -> Result<String, fmt::Error>
-    requires { Ready entries }
     ensures { IfOk result (λ text. string_bytes text ≡ listed (card_line width entries.entry.count) 0 (coming entries.entry)) }
 {
     let mut text = String::new(heap);

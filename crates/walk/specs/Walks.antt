@@ -1,12 +1,11 @@
 -- What a walk under way has still to give, and what it means to have given it.
-use Rattle.std.specs.Prelude.{◌≡◌, ℕ, ◌+◌, ◌≤◌, List, [], ◌∷◌, length, Some, None, Ok, Err, Option, Result}
+use Rattle.std.specs.Prelude.{◌≡◌, ℕ, List, [], ◌∷◌, Some, None, Ok, Err, Option, Result}
 use Rattle.std.specs.Iterator.{AlwaysYields}
 use Rattle.std.specs.Iterator.Adapters.{enumerate_source, enumerate_count}
 use Rattle.std.specs.Slice.Iter.{iter_rest}
 use Rattle.fault.specs.declared.Fault.{Fault}
 use Rattle.layout.specs.declared.Entry.{Entry}
 use Rattle.layout.specs.declared.Entry.TheVariants.{Blank, Sealed}
-use Rattle.layout.specs.Layout.{most_sectors}
 use Rattle.walk.specs.declared.Entries.{Entries}
 use Rattle.walk.specs.Contents.{Content, blank, sealed, Outcome, walk_on}
 
@@ -25,10 +24,6 @@ records_left e = iter_rest (enumerate_source e.records)
 
 abbrev pub next_sector : Entries → ℕ
 next_sector e = enumerate_count e.records
-
--- the sectors that a walk goes over are those of a card; every walk that is begun is so, and stays so
-pub record Ready (e : Entries) : Type 0 where
-  pub few : next_sector e + length (records_left e) ≤ most_sectors
 
 -- what the walk has still to give, in order
 abbrev pub coming : Entries → List Outcome
