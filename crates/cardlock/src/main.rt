@@ -86,7 +86,6 @@ fn load_image(
     cipher: CipherName,
     lines: &[Line],
 ) -> anyhow::Result<Vec<u8>> {
-    let heap = rt.alloc();
     let found = match script::first_length(cipher, lines) {
         None => read_file(rt, name)?,
         Some(length) => match fs::read(rt, name) {
