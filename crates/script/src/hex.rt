@@ -9,12 +9,8 @@ use std::fmt;
 fn digit_value(digit: u8) -> Option<u8>
     ensures { result ≡ digit_value digit }
 {
-    match digit {
-        b'0'..=b'9' => Some(digit - b'0'),
-        b'a'..=b'f' => Some(digit - b'a' + 10),
-        b'A'..=b'F' => Some(digit - b'A' + 10),
-        _ => None,
-    }
+    let value = char::from(digit).to_digit(16)?;
+    Some(value as u8)
 }
 
 // The byte that a pair of digits spells.

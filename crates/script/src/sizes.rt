@@ -1,6 +1,6 @@
 // The sizes of images that a script's formats ask for.
 ghost use Rattle.std.specs.Prelude.{◌≡◌, ℕ, ◌+◌, ◌*◌, ◌≤◌};
-ghost use Rattle.script.specs.Sizes.{block_length, image_length};
+ghost use Rattle.script.specs.Sizes.{block_length, image_length, wanted, first_wanted, first_other};
 
 use crate::commands::{Command, Line};
 use crate::rings::CipherName;
@@ -27,7 +27,9 @@ fn image_length(cipher: CipherName, sectors: usize) -> usize
 }
 
 // The length of an image that a line asks for, if it is a format.
-fn wanted(cipher: CipherName, line: &Line) -> Option<usize> {
+fn wanted(cipher: CipherName, line: &Line) -> Option<usize>
+    ensures { result ≡ wanted cipher line.now }
+{
     match line.command {
         Command::Format { sectors, .. } if sectors <= MOST_SECTORS => {
             Some(image_length(cipher, sectors))
@@ -37,12 +39,16 @@ fn wanted(cipher: CipherName, line: &Line) -> Option<usize> {
 }
 
 // The length of the image that a script makes, where it begins with a format.
-pub fn first_length(cipher: CipherName, lines: &[Line]) -> Option<usize> {
+pub fn first_length(cipher: CipherName, lines: &[Line]) -> Option<usize>
+    ensures { result ≡ first_wanted cipher lines.now }
+{
     wanted(cipher, lines.first()?)
 }
 
 // The first line with a format for an image of another length than this.
-pub fn other_size(cipher: CipherName, lines: &[Line], length: usize) -> Option<usize> {
+pub fn other_size(cipher: CipherName, lines: &[Line], length: usize) -> Option<usize>
+    ensures { result ≡ first_other cipher length lines.now }
+{
     lines
         .iter()
         .find(|line| wanted(cipher, line).is_some_and(|size| size != length))
