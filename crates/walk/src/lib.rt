@@ -23,6 +23,7 @@ pub use begin::walk;
 pub struct Entries<'a> {
     // The records that are still to come, each with its sector.
     records: Enumerate<Iter<'a, [u8; RECORD_LENGTH]>>,
+    // How many sectors the card has.
     count: usize,
     // A card has no more sectors than this, and the records to come are of its sectors.
     ghost few: { count ≤ most_sectors },
