@@ -113,10 +113,7 @@ impl SealFault {
     {
         match self {
             SealFault::DeadTweak { cause } => Some(cause),
-            SealFault::TweakLength
-            | SealFault::NotWholeBlocks
-            | SealFault::TooManyBlocks
-            | SealFault::OtherLength => None,
+            _ => None,
         }
     }
 }
@@ -166,13 +163,11 @@ impl Fault {
         ensures { result ≡ fault_layer self }
     {
         match self {
-            Fault::Seal { fault, .. } => match fault {
-                SealFault::TweakLength => Layer::Card,
-                SealFault::NotWholeBlocks
-                | SealFault::TooManyBlocks
-                | SealFault::DeadTweak { .. }
-                | SealFault::OtherLength => Layer::Sealing,
-            },
+            Fault::Seal {
+                fault: SealFault::TweakLength,
+                ..
+            } => Layer::Card,
+            Fault::Seal { .. } => Layer::Sealing,
             _ => Layer::Card,
         }
     }
@@ -182,17 +177,12 @@ impl Fault {
         ensures { result ≡ fault_sector self }
     {
         match self {
-            Fault::NoSector { sector } => Some(sector),
-            Fault::BadMark { sector } => Some(sector),
-            Fault::BlankNotZero { sector } => Some(sector),
-            Fault::BlankSector { sector } => Some(sector),
-            Fault::Seal { sector, .. } => Some(sector),
-            Fault::RingSize
-            | Fault::ImageLength
-            | Fault::BadHeader
-            | Fault::NoKey
-            | Fault::TextLength
-            | Fault::CardNumberLength => None,
+            Fault::NoSector { sector }
+            | Fault::BadMark { sector }
+            | Fault::BlankNotZero { sector }
+            | Fault::BlankSector { sector }
+            | Fault::Seal { sector, .. } => Some(sector),
+            _ => None,
         }
     }
 
@@ -226,15 +216,13 @@ impl fmt::Display for Fault {
     fn fmt<W: fmt::Write>(&self, f: &mut fmt::Formatter<W>) -> fmt::Result {
         let number = self.number();
         let sentence = self.sentence();
-        match self.sector() {
-            None => write!(f, "refusal {number}: {sentence}"),
-            Some(sector) => match self.key() {
-                None => write!(f, "refusal {number}, sector {sector}: {sentence}"),
-                Some(key) => write!(
-                    f,
-                    "refusal {number}, sector {sector}, key {key}: {sentence}"
-                ),
-            },
+        match (self.sector(), self.key()) {
+            (None, _) => write!(f, "refusal {number}: {sentence}"),
+            (Some(sector), None) => write!(f, "refusal {number}, sector {sector}: {sentence}"),
+            (Some(sector), Some(key)) => write!(
+                f,
+                "refusal {number}, sector {sector}, key {key}: {sentence}"
+            ),
         }
     }
 }
@@ -248,9 +236,6 @@ impl<T> At<T> for Result<T, SealFault> {
     fn at(self, sector: usize, key: usize) -> Result<T, Fault>
         ensures { result ≡ placed self sector key }
     {
-        match self {
-            Ok(x) => Ok(x),
-            Err(fault) => Err(Fault::Seal { fault, sector, key }),
-        }
+        self.map_err(|fault| Fault::Seal { fault, sector, key })
     }
 }
