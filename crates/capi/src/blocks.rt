@@ -3,34 +3,45 @@ ghost use Rattle.std.specs.Prelude.{◌≡◌, length};
 ghost use Rattle.kind.specs.Polynomials.{wide_ops, short_ops};
 ghost use Rattle.capi.specs.Keyed.{aes_under, xtea_under, whitened_under, on_block};
 
-use crate::keyed::whitened_under;
+use crate::keyed::Keyed;
 use aes::Aes;
-use cipher::Cipher;
+use cipher::Whitened;
 use kind::Block;
 use xtea::Xtea;
 
-fn encrypt_by<C: Cipher>(cipher: &C, block: &mut [u8])
-    requires { length block.old ≡ C.Block.ops.size }
-    ensures { block.new ≡ on_block C.Block.ops (C.enc cipher.now) block.old }
+// Puts what a map gives of a block in the block's place.
+fn replace<K: Block, F: FnOnce(K) -> K>(block: &mut [u8], map: F)
+    requires whole { length block.old ≡ K.ops.size }
+    requires callable { F.pre map (K.ops.block block.old) }
+    ensures { (b : K) × F.post map (K.ops.block block.old) b × (block.new ≡ K.ops.bytes b) }
 {
-    let text = C::Block::load(block);
-    cipher.encrypt(text).store(block);
+    map(K::load(block)).store(block);
 }
 
-fn decrypt_by<C: Cipher>(cipher: &C, block: &mut [u8])
+fn encrypt<C: Keyed>(key: &C::Key, block: &mut [u8])
     requires { length block.old ≡ C.Block.ops.size }
-    ensures { block.new ≡ on_block C.Block.ops (C.dec cipher.now) block.old }
+    ensures { block.new ≡ on_block C.Block.ops (C.under key.now).E block.old }
 {
-    let text = C::Block::load(block);
-    cipher.decrypt(text).store(block);
+    let cipher = C::of_key(key);
+    replace(block, |text| cipher.encrypt(text));
 }
+
+fn decrypt<C: Keyed>(key: &C::Key, block: &mut [u8])
+    requires { length block.old ≡ C.Block.ops.size }
+    ensures { block.new ≡ on_block C.Block.ops (C.under key.now).D block.old }
+{
+    let cipher = C::of_key(key);
+    replace(block, |text| cipher.decrypt(text));
+}
+
+// Kept: the exports are the C interface, which has a function for each cipher.
 
 // AES-128 of a block under a key.
 #[unsafe(no_mangle)]
 pub extern "C" fn cardlock_aes_encrypt(key: &[u8; 16], block: &mut [u8; 16])
     ensures { block.new ≡ on_block wide_ops (aes_under key.now).E block.old }
 {
-    encrypt_by(&Aes::new(key), block);
+    encrypt::<Aes>(key, block);
 }
 
 // The deciphering by AES-128 of a block under a key.
@@ -38,7 +49,7 @@ pub extern "C" fn cardlock_aes_encrypt(key: &[u8; 16], block: &mut [u8; 16])
 pub extern "C" fn cardlock_aes_decrypt(key: &[u8; 16], block: &mut [u8; 16])
     ensures { block.new ≡ on_block wide_ops (aes_under key.now).D block.old }
 {
-    decrypt_by(&Aes::new(key), block);
+    decrypt::<Aes>(key, block);
 }
 
 // XTEA of a block under a key.
@@ -46,7 +57,7 @@ pub extern "C" fn cardlock_aes_decrypt(key: &[u8; 16], block: &mut [u8; 16])
 pub extern "C" fn cardlock_xtea_encrypt(key: &[u8; 16], block: &mut [u8; 8])
     ensures { block.new ≡ on_block short_ops (xtea_under key.now).E block.old }
 {
-    encrypt_by(&Xtea::new(key), block);
+    encrypt::<Xtea>(key, block);
 }
 
 // The deciphering by XTEA of a block under a key.
@@ -54,7 +65,7 @@ pub extern "C" fn cardlock_xtea_encrypt(key: &[u8; 16], block: &mut [u8; 8])
 pub extern "C" fn cardlock_xtea_decrypt(key: &[u8; 16], block: &mut [u8; 8])
     ensures { block.new ≡ on_block short_ops (xtea_under key.now).D block.old }
 {
-    decrypt_by(&Xtea::new(key), block);
+    decrypt::<Xtea>(key, block);
 }
 
 // Whitened XTEA of a block under a key, which is followed by the block before and the block after.
@@ -62,7 +73,7 @@ pub extern "C" fn cardlock_xtea_decrypt(key: &[u8; 16], block: &mut [u8; 8])
 pub extern "C" fn cardlock_whitened_encrypt(key: &[u8; 32], block: &mut [u8; 8])
     ensures { block.new ≡ on_block short_ops (whitened_under key.now).E block.old }
 {
-    encrypt_by(&whitened_under(key), block);
+    encrypt::<Whitened<Xtea>>(key, block);
 }
 
 // The deciphering by whitened XTEA of a block under a key, which is followed by the block before and the block after.
@@ -70,5 +81,5 @@ pub extern "C" fn cardlock_whitened_encrypt(key: &[u8; 32], block: &mut [u8; 8])
 pub extern "C" fn cardlock_whitened_decrypt(key: &[u8; 32], block: &mut [u8; 8])
     ensures { block.new ≡ on_block short_ops (whitened_under key.now).D block.old }
 {
-    decrypt_by(&whitened_under(key), block);
+    decrypt::<Whitened<Xtea>>(key, block);
 }

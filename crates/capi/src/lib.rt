@@ -7,6 +7,5 @@ mod outcome;
 mod outcomes;
 mod sealings;
 
-pub use keyed::whitened_under;
+pub use keyed::{Keyed, whitened_under};
 pub use outcome::Outcome;
-pub use outcomes::card_outcome;

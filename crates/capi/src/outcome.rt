@@ -3,7 +3,7 @@
 // number: 0 accepted, or the number of the refusal. layer: 0 accepted, 1 sealing, 2 card. cause: 1 where zero had no inverse. places: how many of
 // sector and key are named, 0, 1 (the sector) or 2 (both); what is not named is 0.
 #[repr(C)]
-#[derive(Clone, Copy)]
+#[derive(Clone, Copy, Default)]
 pub struct Outcome {
     pub number: u32,
     pub layer: u32,

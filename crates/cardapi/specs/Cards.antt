@@ -1,5 +1,5 @@
 -- What the exports on cards answer and leave.
-use Rattle.std.specs.Prelude.{◌≡◌, ℕ, ◌<◌, ◌≤◌, List, [], ◌∷◌, map, length, replicate, slice_index_or}
+use Rattle.std.specs.Prelude.{◌≡◌, ℕ, ◌<◌, ◌≤◌, List, map, length}
 use Rattle.fault.specs.declared.Fault.TheVariants.{RingSize}
 use Rattle.sheet.specs.Sectors.{Sectors}
 use Rattle.sheet.specs.Promise.{Call, read, buffer_after}
@@ -20,15 +20,6 @@ module _ {C : Type 0} (S : Sectors C) (ring : List C) (image : List ℕ) where
 
 -- A ring given as keys: `parts` is what a cipher holds and `made` what a key gives it. With up to eight keys the ciphers of the
 -- keys, in their order, satisfy P; with more the ring is refused and `left` holds.
-pub record OnRing {C D : Type 0} (parts : C → D) (made : List ℕ → D) (keys : List (List ℕ)) (P : List C → Type 0) (o : Outcome) (left : Type 0) : Type 0 where
+pub record OnRing {C D K : Type 0} (parts : C → D) (made : K → D) (keys : List K) (P : List C → Type 0) (o : Outcome) (left : Type 0) : Type 0 where
   pub few : length keys ≤ 8 → (ring : List C) × (map parts ring ≡ map made keys) × P ring
   pub many : 8 < length keys → (o ≡ refused RingSize) × left
-
-abbrev pub no_key : ℕ → List ℕ
-no_key bytes = replicate bytes 0
-
--- the first eight keys, zero ones in place of those that are missing
-abbrev pub eight : ℕ → List (List ℕ) → List (List ℕ)
-eight bytes keys =
-    slice_index_or keys 0 (no_key bytes) ∷ slice_index_or keys 1 (no_key bytes) ∷ slice_index_or keys 2 (no_key bytes) ∷ slice_index_or keys 3 (no_key bytes)
-    ∷ slice_index_or keys 4 (no_key bytes) ∷ slice_index_or keys 5 (no_key bytes) ∷ slice_index_or keys 6 (no_key bytes) ∷ slice_index_or keys 7 (no_key bytes) ∷ []

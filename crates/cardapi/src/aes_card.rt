@@ -3,23 +3,21 @@ ghost use Rattle.std.specs.Prelude.{◌≡◌, []};
 ghost use Rattle.aes.specs.Keys.{key_expansion};
 ghost use Rattle.sheet.specs.Promise.{format as Formatting, opening as Opening, write as Writing, rekey as Rekeying, copy as Copying, erase as Erasing};
 ghost use Rattle.cardapi.specs.Cards.{OnRing, Acted, WasRead};
-ghost use Rattle.cardapi.specs.Rings.{aes_sectors, aes_parts};
+ghost use Rattle.capi.specs.Keyed.{aes_parts};
+ghost use Rattle.cardapi.specs.Rings.{aes_sectors};
 
-use crate::made::{
-    copy_on, erase_on, format_on, open_on, read_on, rekey_on, ring_refused, write_on,
-};
-use crate::rings::aes_ring;
+use crate::calls::{copy, erase, format, open, read, rekey, write};
 use aes::Aes;
 use capi::Outcome;
-use cipher::Cipher;
-use kind::Block;
+
+// Kept: the exports are the C interface, which has a function for each kind and each cipher.
 
 // Writes the whole image of a card of the wide kind: header, card number, every sector blank. Refuses 2 and 10.
 #[unsafe(no_mangle)]
 pub extern "C" fn cardlock_wide_format(image: &mut [u8], number: &[u8]) -> Outcome
     ensures { Acted aes_sectors [] image.old (Formatting number.now) result image.new }
 {
-    format_on::<Aes>(image, number)
+    Outcome::from(format::<Aes>(image, number))
 }
 
 // Makes a sector of a card of the wide kind blank. Refuses 2 to 4.
@@ -27,7 +25,7 @@ pub extern "C" fn cardlock_wide_format(image: &mut [u8], number: &[u8]) -> Outco
 pub extern "C" fn cardlock_wide_erase(image: &mut [u8], sector: usize) -> Outcome
     ensures { Acted aes_sectors [] image.old (Erasing sector) result image.new }
 {
-    erase_on::<Aes>(image, sector)
+    Outcome::from(erase::<Aes>(image, sector))
 }
 
 // Accepts the image exactly where it is the card of some sheet, and changes no byte. Refuses 1 to 3, then 7, 8 and 13 sector by sector.
@@ -35,10 +33,7 @@ pub extern "C" fn cardlock_wide_erase(image: &mut [u8], sector: usize) -> Outcom
 pub extern "C" fn cardlock_aes_open(keys: &[[u8; 16]], image: &[u8]) -> Outcome
     ensures { OnRing aes_parts key_expansion keys.now (λ ring. Acted aes_sectors ring image.now Opening result image.now) result (Unit {0}) }
 {
-    if keys.len() > 8 {
-        return ring_refused();
-    }
-    open_on(&aes_ring(keys)[0..keys.len()], image)
+    Outcome::from(open::<Aes>(keys, image))
 }
 
 // Makes a sector this key number and this text. Refuses 1 to 6 and 13.
@@ -52,10 +47,7 @@ pub extern "C" fn cardlock_aes_write(
 ) -> Outcome
     ensures { OnRing aes_parts key_expansion keys.now (λ ring. Acted aes_sectors ring image.old (Writing sector key text.now) result image.new) result (image.new ≡ image.old) }
 {
-    if keys.len() > 8 {
-        return ring_refused();
-    }
-    write_on(&aes_ring(keys)[0..keys.len()], image, sector, key, text)
+    Outcome::from(write::<Aes>(keys, image, sector, key, text))
 }
 
 // Puts a sector's text into the buffer. Refuses 1 to 4, 6, 7, 9 and 13.
@@ -68,10 +60,7 @@ pub extern "C" fn cardlock_aes_read(
 ) -> Outcome
     ensures { OnRing aes_parts key_expansion keys.now (λ ring. WasRead aes_sectors ring image.now sector buffer.old result buffer.new) result (buffer.new ≡ buffer.old) }
 {
-    if keys.len() > 8 {
-        return ring_refused();
-    }
-    read_on(&aes_ring(keys)[0..keys.len()], image, sector, buffer)
+    Outcome::from(read::<Aes>(keys, image, sector, buffer))
 }
 
 // Gives a sector a new key number, its text unchanged. Refuses 1 to 5, 7, 9, then 13 for the old key and for the new.
@@ -84,10 +73,7 @@ pub extern "C" fn cardlock_aes_rekey(
 ) -> Outcome
     ensures { OnRing aes_parts key_expansion keys.now (λ ring. Acted aes_sectors ring image.old (Rekeying sector key) result image.new) result (image.new ≡ image.old) }
 {
-    if keys.len() > 8 {
-        return ring_refused();
-    }
-    rekey_on(&aes_ring(keys)[0..keys.len()], image, sector, key)
+    Outcome::from(rekey::<Aes>(keys, image, sector, key))
 }
 
 // Gives the destination the source's key number and text. Refuses 1 to 4, the source looked at first, 7, 9, then 13 for the source and for the destination.
@@ -100,8 +86,5 @@ pub extern "C" fn cardlock_aes_copy(
 ) -> Outcome
     ensures { OnRing aes_parts key_expansion keys.now (λ ring. Acted aes_sectors ring image.old (Copying source destination) result image.new) result (image.new ≡ image.old) }
 {
-    if keys.len() > 8 {
-        return ring_refused();
-    }
-    copy_on(&aes_ring(keys)[0..keys.len()], image, source, destination)
+    Outcome::from(copy::<Aes>(keys, image, source, destination))
 }

@@ -2,7 +2,7 @@
 #![tactic(auto)]
 
 mod aes_card;
-mod made;
+mod calls;
 mod rings;
 mod whitened_card;
 mod xtea_card;

@@ -1,96 +1,25 @@
-// Eight ciphers from the keys of a ring, zero keys in place of those that are missing.
-ghost use Rattle.std.specs.Prelude.{◌≡◌, map, slice_index_or};
-ghost use Rattle.aes.specs.Keys.{key_expansion};
-ghost use Rattle.xtea.specs.Xtea.{key_words};
-ghost use Rattle.cardapi.specs.Cards.{eight, no_key};
-ghost use Rattle.cardapi.specs.Rings.{aes_parts, xtea_parts, whitened_parts, whitened_made};
+// The ciphers of a ring that C gives as keys.
+ghost use Rattle.std.specs.Prelude.{◌≡◌, ◌≤◌, ◌<◌, map, take, length, slice_index_or, MatchResult};
+ghost use Rattle.fault.specs.declared.Fault.TheVariants.{RingSize};
 
-use aes::Aes;
-use capi::whitened_under;
-use cipher::Whitened;
-use xtea::Xtea;
+use capi::Keyed;
+use fault::Fault;
+use layout::MOST_KEYS;
+use std::array;
 
-// The key of a place on the ring, or a zero one.
-fn key_at(keys: &[[u8; 16]], place: usize) -> [u8; 16]
-    ensures { result ≡ slice_index_or keys.now place (no_key 16) }
+// The ciphers of up to eight keys, in their order, and behind them those of zero keys. More keys are refused by 1.
+pub fn ciphers_of<C: Keyed>(keys: &[C::Key]) -> Result<[C; MOST_KEYS], Fault>
+    ensures { MatchResult result (λ ciphers. (length keys.now ≤ 8) × (map C.held (take (length keys.now) ciphers) ≡ map C.made keys.now)) (λ f. (8 < length keys.now) × (f ≡ RingSize)) }
 {
-    if place < keys.len() {
-        keys[place]
-    } else {
-        [0; 16]
+    if keys.len() > MOST_KEYS {
+        return Err(Fault::RingSize);
     }
+    Ok(array::from_fn(|place| cipher_at(keys, place)))
 }
 
-fn aes_at(keys: &[[u8; 16]], place: usize) -> Aes
-    ensures { aes_parts result ≡ key_expansion (slice_index_or keys.now place (no_key 16)) }
+// The cipher of the key at a place, or of a zero key behind the last.
+fn cipher_at<C: Keyed>(keys: &[C::Key], place: usize) -> C
+    ensures { (k : C.Key) → place < length keys.now → C.held result ≡ C.made (slice_index_or keys.now place k) }
 {
-    Aes::new(&key_at(keys, place))
-}
-
-pub fn aes_ring(keys: &[[u8; 16]]) -> [Aes; 8]
-    ensures { map aes_parts result ≡ map key_expansion (eight 16 keys.now) }
-{
-    [
-        aes_at(keys, 0),
-        aes_at(keys, 1),
-        aes_at(keys, 2),
-        aes_at(keys, 3),
-        aes_at(keys, 4),
-        aes_at(keys, 5),
-        aes_at(keys, 6),
-        aes_at(keys, 7),
-    ]
-}
-
-fn xtea_at(keys: &[[u8; 16]], place: usize) -> Xtea
-    ensures { xtea_parts result ≡ key_words (slice_index_or keys.now place (no_key 16)) }
-{
-    Xtea::new(&key_at(keys, place))
-}
-
-pub fn xtea_ring(keys: &[[u8; 16]]) -> [Xtea; 8]
-    ensures { map xtea_parts result ≡ map key_words (eight 16 keys.now) }
-{
-    [
-        xtea_at(keys, 0),
-        xtea_at(keys, 1),
-        xtea_at(keys, 2),
-        xtea_at(keys, 3),
-        xtea_at(keys, 4),
-        xtea_at(keys, 5),
-        xtea_at(keys, 6),
-        xtea_at(keys, 7),
-    ]
-}
-
-// The 32 bytes of a place on a ring of whitened XTEA, or zero ones.
-fn whitened_key_at(keys: &[[u8; 32]], place: usize) -> [u8; 32]
-    ensures { result ≡ slice_index_or keys.now place (no_key 32) }
-{
-    if place < keys.len() {
-        keys[place]
-    } else {
-        [0; 32]
-    }
-}
-
-fn whitened_at(keys: &[[u8; 32]], place: usize) -> Whitened<Xtea>
-    ensures { whitened_parts result ≡ whitened_made (slice_index_or keys.now place (no_key 32)) }
-{
-    whitened_under(&whitened_key_at(keys, place))
-}
-
-pub fn whitened_ring(keys: &[[u8; 32]]) -> [Whitened<Xtea>; 8]
-    ensures { map whitened_parts result ≡ map whitened_made (eight 32 keys.now) }
-{
-    [
-        whitened_at(keys, 0),
-        whitened_at(keys, 1),
-        whitened_at(keys, 2),
-        whitened_at(keys, 3),
-        whitened_at(keys, 4),
-        whitened_at(keys, 5),
-        whitened_at(keys, 6),
-        whitened_at(keys, 7),
-    ]
+    C::of_key(&keys.get(place).copied().unwrap_or_default())
 }

@@ -3,23 +3,21 @@ ghost use Rattle.std.specs.Prelude.{◌≡◌, []};
 ghost use Rattle.xtea.specs.Xtea.{key_words};
 ghost use Rattle.sheet.specs.Promise.{format as Formatting, opening as Opening, write as Writing, rekey as Rekeying, copy as Copying, erase as Erasing};
 ghost use Rattle.cardapi.specs.Cards.{OnRing, Acted, WasRead};
-ghost use Rattle.cardapi.specs.Rings.{xtea_sectors, xtea_parts};
+ghost use Rattle.capi.specs.Keyed.{xtea_parts};
+ghost use Rattle.cardapi.specs.Rings.{xtea_sectors};
 
-use crate::made::{
-    copy_on, erase_on, format_on, open_on, read_on, rekey_on, ring_refused, write_on,
-};
-use crate::rings::xtea_ring;
+use crate::calls::{copy, erase, format, open, read, rekey, write};
 use capi::Outcome;
-use cipher::Cipher;
-use kind::Block;
 use xtea::Xtea;
+
+// Kept: the exports are the C interface, which has a function for each kind and each cipher.
 
 // Writes the whole image of a card of the short kind: header, card number, every sector blank. Refuses 2 and 10.
 #[unsafe(no_mangle)]
 pub extern "C" fn cardlock_short_format(image: &mut [u8], number: &[u8]) -> Outcome
     ensures { Acted xtea_sectors [] image.old (Formatting number.now) result image.new }
 {
-    format_on::<Xtea>(image, number)
+    Outcome::from(format::<Xtea>(image, number))
 }
 
 // Makes a sector of a card of the short kind blank. Refuses 2 to 4.
@@ -27,7 +25,7 @@ pub extern "C" fn cardlock_short_format(image: &mut [u8], number: &[u8]) -> Outc
 pub extern "C" fn cardlock_short_erase(image: &mut [u8], sector: usize) -> Outcome
     ensures { Acted xtea_sectors [] image.old (Erasing sector) result image.new }
 {
-    erase_on::<Xtea>(image, sector)
+    Outcome::from(erase::<Xtea>(image, sector))
 }
 
 // Accepts the image exactly where it is the card of some sheet, and changes no byte. Refuses 1 to 3, then 7, 8 and 13 sector by sector.
@@ -35,10 +33,7 @@ pub extern "C" fn cardlock_short_erase(image: &mut [u8], sector: usize) -> Outco
 pub extern "C" fn cardlock_xtea_open(keys: &[[u8; 16]], image: &[u8]) -> Outcome
     ensures { OnRing xtea_parts key_words keys.now (λ ring. Acted xtea_sectors ring image.now Opening result image.now) result (Unit {0}) }
 {
-    if keys.len() > 8 {
-        return ring_refused();
-    }
-    open_on(&xtea_ring(keys)[0..keys.len()], image)
+    Outcome::from(open::<Xtea>(keys, image))
 }
 
 // Makes a sector this key number and this text. Refuses 1 to 6 and 13.
@@ -52,10 +47,7 @@ pub extern "C" fn cardlock_xtea_write(
 ) -> Outcome
     ensures { OnRing xtea_parts key_words keys.now (λ ring. Acted xtea_sectors ring image.old (Writing sector key text.now) result image.new) result (image.new ≡ image.old) }
 {
-    if keys.len() > 8 {
-        return ring_refused();
-    }
-    write_on(&xtea_ring(keys)[0..keys.len()], image, sector, key, text)
+    Outcome::from(write::<Xtea>(keys, image, sector, key, text))
 }
 
 // Puts a sector's text into the buffer. Refuses 1 to 4, 6, 7, 9 and 13.
@@ -68,10 +60,7 @@ pub extern "C" fn cardlock_xtea_read(
 ) -> Outcome
     ensures { OnRing xtea_parts key_words keys.now (λ ring. WasRead xtea_sectors ring image.now sector buffer.old result buffer.new) result (buffer.new ≡ buffer.old) }
 {
-    if keys.len() > 8 {
-        return ring_refused();
-    }
-    read_on(&xtea_ring(keys)[0..keys.len()], image, sector, buffer)
+    Outcome::from(read::<Xtea>(keys, image, sector, buffer))
 }
 
 // Gives a sector a new key number, its text unchanged. Refuses 1 to 5, 7, 9, then 13 for the old key and for the new.
@@ -84,10 +73,7 @@ pub extern "C" fn cardlock_xtea_rekey(
 ) -> Outcome
     ensures { OnRing xtea_parts key_words keys.now (λ ring. Acted xtea_sectors ring image.old (Rekeying sector key) result image.new) result (image.new ≡ image.old) }
 {
-    if keys.len() > 8 {
-        return ring_refused();
-    }
-    rekey_on(&xtea_ring(keys)[0..keys.len()], image, sector, key)
+    Outcome::from(rekey::<Xtea>(keys, image, sector, key))
 }
 
 // Gives the destination the source's key number and text. Refuses 1 to 4, the source looked at first, 7, 9, then 13 for the source and for the destination.
@@ -100,8 +86,5 @@ pub extern "C" fn cardlock_xtea_copy(
 ) -> Outcome
     ensures { OnRing xtea_parts key_words keys.now (λ ring. Acted xtea_sectors ring image.old (Copying source destination) result image.new) result (image.new ≡ image.old) }
 {
-    if keys.len() > 8 {
-        return ring_refused();
-    }
-    copy_on(&xtea_ring(keys)[0..keys.len()], image, source, destination)
+    Outcome::from(copy::<Xtea>(keys, image, source, destination))
 }

@@ -8,6 +8,7 @@ ghost use Rattle.fieldapi.specs.Elements.{product, inverted, is_there};
 use kind::Block;
 use poly::{Short, Wide};
 
+// Puts the product of two elements in place of the second.
 fn multiply<K: Block>(a: &[u8], b: &mut [u8])
     requires first { length a.now ≡ K.ops.size }
     requires second { length b.old ≡ K.ops.size }
@@ -18,6 +19,7 @@ fn multiply<K: Block>(a: &[u8], b: &mut [u8])
     x.times(y).store(b);
 }
 
+// Puts the inverse of an element in its place and answers true; zero has none, stays, and the answer is false.
 fn invert<K: Block>(a: &mut [u8]) -> bool
     requires { length a.old ≡ K.ops.size }
     ensures there { result ≡ is_there (K.ops.inverse (K.ops.block a.old)) }
@@ -30,6 +32,8 @@ fn invert<K: Block>(a: &mut [u8]) -> bool
     y.store(a);
     true
 }
+
+// Kept: the exports, and the answer true or false, are the C interface, which has a function for each kind.
 
 // Puts the product of two elements of the wide kind in place of the second.
 #[unsafe(no_mangle)]

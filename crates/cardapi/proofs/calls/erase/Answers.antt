@@ -1,0 +1,9 @@
+-- The call needs no ring, so that of no cipher will do.
+use Rattle.std.proofs.Common.{[], ap}
+use Rattle.capi.specs.Outcomes.{outcome}
+use Rattle.cardapi.proofs.calls.erase.Goals as goal
+
+pub returns : goal.returns
+returns g c =
+    let a = c.erase.ensures [] in
+    record { outcome_is = ap outcome a.outcome; image_is = a.image_is }

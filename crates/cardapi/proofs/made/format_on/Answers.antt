@@ -1,9 +1,0 @@
--- The call needs no ring, so that of no cipher will do.
-use Rattle.std.proofs.Common.{[], ap, ◌∙◌}
-use Rattle.capi.specs.Outcomes.{outcome}
-use Rattle.cardapi.proofs.made.format_on.Goals as goal
-
-pub returns : goal.returns
-returns g c =
-    let a = c.format.ensures [] in
-    record { outcome_is = c.card_outcome.ensures ∙ ap outcome a.outcome; image_is = a.image_is }
