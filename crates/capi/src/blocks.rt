@@ -18,6 +18,7 @@ fn replace<K: Block, F: FnOnce(K) -> K>(block: &mut [u8], map: F)
     map(K::load(block)).store(block);
 }
 
+// Puts E of a block in the block's place, by the cipher of a key.
 fn encrypt<C: Keyed>(key: &C::Key, block: &mut [u8])
     requires { length block.old ≡ C.Block.ops.size }
     ensures { block.new ≡ on_block C.Block.ops (C.under key.now).E block.old }
@@ -26,6 +27,7 @@ fn encrypt<C: Keyed>(key: &C::Key, block: &mut [u8])
     replace(block, |text| cipher.encrypt(text));
 }
 
+// Puts D of a block in the block's place, by the cipher of a key.
 fn decrypt<C: Keyed>(key: &C::Key, block: &mut [u8])
     requires { length block.old ≡ C.Block.ops.size }
     ensures { block.new ≡ on_block C.Block.ops (C.under key.now).D block.old }

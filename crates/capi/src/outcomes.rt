@@ -43,6 +43,7 @@ impl From<Result<(), Fault>> for Outcome {
 }
 
 // The layer that refuses.
+// Kept: a function, since a `From` would be between two types of other crates.
 fn layer_code(layer: Layer) -> u32
     ensures { result ≡ layer_code layer }
 {

@@ -10,6 +10,9 @@ use aes::Aes;
 use cipher::Whitened;
 use xtea::Xtea;
 
+// Kept: two functions of one line, since sealing and unsealing are two calls with two contracts; one that takes the call as a closure would be longer.
+
+// Seals a buffer by the cipher of a key.
 fn seal<C: Keyed>(key: &C::Key, tweak: &[u8], buffer: &mut [u8]) -> Outcome
     ensures answers { result ≡ seal_outcome C.Block.ops (C.under key.now) tweak.now buffer.old }
     ensures leaves { buffer.new ≡ seal_leaves C.Block.ops (C.under key.now) tweak.now buffer.old }
@@ -17,6 +20,7 @@ fn seal<C: Keyed>(key: &C::Key, tweak: &[u8], buffer: &mut [u8]) -> Outcome
     Outcome::from(sealing::seal(&C::of_key(key), tweak, buffer))
 }
 
+// Unseals a buffer by the cipher of a key.
 fn unseal<C: Keyed>(key: &C::Key, tweak: &[u8], buffer: &mut [u8]) -> Outcome
     ensures answers { result ≡ unseal_outcome C.Block.ops (C.under key.now) tweak.now buffer.old }
     ensures leaves { buffer.new ≡ unseal_leaves C.Block.ops (C.under key.now) tweak.now buffer.old }
