@@ -18,6 +18,8 @@ pub fn format<C: Cipher>(image: &mut [u8], number: &[u8]) -> Result<(), Fault>
     card::format::<C>(image, number)
 }
 
+// Kept: each call takes its ring from the array, since a struct of the ciphers and their number owes at each use that it fits in memory (C is a parameter).
+
 // Accepts the image exactly where it is the card of some sheet.
 pub fn open<C: Keyed>(keys: &[C::Key], image: &[u8]) -> Result<(), Fault>
     ensures { OnRing C.held C.made keys.now (λ ring. Acted (sectors C.Block.ops C.enc C.dec) ring image.now Opening (outcome result) image.now) (outcome result) (Unit {0}) }
