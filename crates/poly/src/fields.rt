@@ -25,7 +25,7 @@ pub trait Field: Poly {
     fn numbered(n: u64) -> Self
         ensures { Self.value result ≡ n };
 
-    // Kept: each kind reads and writes by the same lines over its own type of number: no trait has `from_be_bytes` and `to_be_bytes`.
+    // Kept: each kind's own, by the same lines over its type of number: no trait has `from_be_bytes` and `to_be_bytes`.
 
     // The element whose coefficients are the bits of the bytes, the highest first. Called with just the bytes of one element.
     fn read(from: &[u8]) -> Self
@@ -37,8 +37,7 @@ pub trait Field: Poly {
         requires { length into.old * 8 ≡ Self.width }
         ensures { into.new ≡ bytes (length into.old) (Self.value self) };
 
-    // Kept: each kind gives the next two by the same lines. A default method would owe that a `Multiplier<Self>` finds room in memory, which no bound
-    // says of `Self`.
+    // Kept: each kind's own, by the same lines: a default method would owe that its tables find room in memory, which no bound says of `Self`.
 
     // The product.
     fn product(self, other: Self) -> Self

@@ -24,8 +24,7 @@ impl From<Short> for u64 {
     }
 }
 
-// Kept: the wide kind has an impl of its own. The methods differ in the words that they work on and in the terms that they fold by; what depends on
-// neither is generic in `arithmetic`.
+// Kept: not one impl with the wide kind's: the methods differ in the words they work on and the terms they fold by, and the rest is generic already.
 impl Poly for Short {
     ghost width = { 64 };
 
