@@ -1,5 +1,5 @@
--- The round keys as the chunks of an expanded key.
-use Rattle.std.proofs.Common.{◌≡◌, ℕ, zero, suc, ◌+◌, ◌*◌, List, [], ◌∷◌, map, length, length-append, get_or, take, drop, sym, refl, ap, ◌∙◌, arith}
+-- The chunks of an expanded key, and its round keys.
+use Rattle.std.proofs.Common.{◌≡◌, ℕ, zero, suc, ◌+◌, ◌*◌, ◌/◌, ◌<◌, List, [], ◌∷◌, map, length, length-append, get_or, take, drop, sym, refl, ap, ◌∙◌, arith}
 use lib.Bits.{bit_xor}
 use Rattle.std.specs.List.{range_with_len, push}
 use Rattle.std.specs.Simd.{first_chunks}
@@ -9,11 +9,22 @@ use Rattle.aes_steps.specs.Steps.{at, state}
 use Rattle.aes_steps.proofs.States.{state_is, state_len, at_state}
 use Rattle.aes.specs.Cipher.{round_key, add_round_key}
 
-pub chunks_are : (n : ℕ) (w : List ℕ) (k i : ℕ) → first_chunks n k (drop (n * i) w) ≡ map (λ j. take n (drop (n * j) w)) (range_with_len i k)
-chunks_are n w zero i = refl
-chunks_are n w (suc k) i =
+chunks_from : (n : ℕ) (w : List ℕ) (k i : ℕ) → first_chunks n k (drop (n * i) w) ≡ map (λ j. take n (drop (n * j) w)) (range_with_len i k)
+chunks_from n w zero i = refl
+chunks_from n w (suc k) i =
     let e : n * i + n ≡ n * (i + 1) = grind arith in
-    ap (λ x. take n (drop (n * i) w) ∷ x) (ap (first_chunks n k) (drop-drop n (n * i) w ∙ ap (λ j. drop j w) e) ∙ chunks_are n w k (i + 1))
+    ap (λ x. take n (drop (n * i) w) ∷ x) (ap (first_chunks n k) (drop-drop n (n * i) w ∙ ap (λ j. drop j w) e) ∙ chunks_from n w k (i + 1))
+
+-- what `as_chunks` gives of a list of k chunks
+pub chunks_are : (n k : ℕ) (w : List ℕ) (xs : List (List ℕ)) → length w / n ≡ k → xs ≡ first_chunks n (length w / n) w
+    → xs ≡ map (λ j. take n (drop (n * j) w)) (range_with_len 0 k)
+chunks_are n k w xs l e =
+    let z : 0 ≡ n * 0 = grind arith in
+    e ∙ ap (λ m. first_chunks n m w) l ∙ ap (λ j. first_chunks n k (drop j w)) z ∙ chunks_from n w k 0
+
+-- byte k of the chunk of n bytes that begins at m
+pub chunk_byte : (n m : ℕ) (w : List ℕ) (k : ℕ) → k < n → get_or (take n (drop m w)) k 0 ≡ get_or w (m + k) 0
+chunk_byte n m w k h = get_or-take n (drop m w) k 0 h ∙ get_or-drop m w k 0
 
 -- of the round keys from 1 on, the last one and those before it
 pub last_key : (w : List ℕ) (all rest : List (List ℕ)) (key : List ℕ) → all ≡ map (λ n. round_key w n) (range_with_len 1 (length all)) → all ≡ push rest key
@@ -34,7 +45,5 @@ added_key w n s =
     state_is (λ r c. bit_xor (at s r c) (get_or (round_key w n) (4 * (4 * 0 + c) + r) 0)) (state f) (state_len f)
     (λ r c hr hc.
     let k : ℕ = 4 * (4 * 0 + c) + r in
-    let t : get_or (round_key w n) k 0 ≡ get_or (drop (16 * n) w) k 0 = get_or-take 16 (drop (16 * n) w) k 0 (omega arith) in
-    let d : get_or (drop (16 * n) w) k 0 ≡ get_or w (16 * n + k) 0 = get_or-drop (16 * n) w k 0 in
     let p : 16 * n + k ≡ 4 * (4 * n + c) + r = omega arith in
-    ap (bit_xor (at s r c)) (t ∙ d ∙ ap (λ i. get_or w i 0) p) ∙ sym (at_state f r c hr hc))
+    ap (bit_xor (at s r c)) (chunk_byte 16 (16 * n) w k (omega arith) ∙ ap (λ i. get_or w i 0) p) ∙ sym (at_state f r c hr hc))

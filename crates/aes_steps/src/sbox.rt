@@ -42,6 +42,8 @@ const INV_SBOX: [u8; 256] = [
     0x17, 0x2b, 0x04, 0x7e, 0xba, 0x77, 0xd6, 0x26, 0xe1, 0x69, 0x14, 0x63, 0x55, 0x21, 0x0c, 0x7d,
 ];
 
+// Kept: a look-up each, with a contract of its own; a function over a table would have to require what the table holds.
+
 // The byte that stands for b in the S-box: the affine image of b's inverse in the field.
 pub fn s_box(b: u8) -> u8
     ensures value { result ≡ s_box b }
