@@ -1,6 +1,5 @@
 -- The checks, whatever they end in.
-use Rattle.std.proofs.Common.{◌≡◌, ℕ, ◌/◌, ◌%◌, Bool, true, false, cond, eqb, leb, List, IsErrAnd, Some, None, Ok, Err, Option, Result, sym, refl, ap, ◌∙◌}
-use Rattle.fault.specs.declared.SealFault.{SealFault}
+use Rattle.std.proofs.Common.{◌≡◌, ℕ, ◌/◌, ◌%◌, Bool, true, false, cond, eqb, leb, List, Some, None, Ok, Err, Option, Result, sym, refl, ap, ◌∙◌}
 use Rattle.fault.specs.declared.SealFault.TheVariants.{TweakLength, NotWholeBlocks, TooManyBlocks}
 use Rattle.kind.specs.Laws.{Ops}
 use Rattle.sealing.specs.Mode.{checked, with_inverse, answer, left}
@@ -30,15 +29,3 @@ pub outcome_ok : {K A : Type 0} (F : Ops K) (t len : ℕ) (o : Option K) (f : K 
 outcome_ok F t len o f h p old new e q =
     let s : checked F t len o (λ L. h (f L)) ≡ Ok (h p) = checked_map F h t len o f ∙ ap (map_ok h) (sym e) in
     (ap answer (sym s), q ∙ ap (λ r. left r old) (sym s))
-
--- what `?` makes of a refusal
-err_by : {A : Type 0} (r : Result A SealFault) (e : SealFault) → IsErrAnd r (λ f. f ≡ e) → r ≡ Err e
-err_by (Ok a) e h = absurd h
-err_by (Err f) e h = ap Err h
-
-pub outcome_err : {K A : Type 0} (F : Ops K) (t len : ℕ) (o : Option K) (f : K → A) (h : A → List ℕ) (r : Result (Unit {0}) SealFault) (e : SealFault) (old : List ℕ)
-    → Err e ≡ checked F t len o f → IsErrAnd r (λ f. f ≡ e)
-    → (r ≡ answer (checked F t len o (λ L. h (f L)))) × (old ≡ left (checked F t len o (λ L. h (f L))) old)
-outcome_err F t len o f h r e old q w =
-    let s : checked F t len o (λ L. h (f L)) ≡ Err e = checked_map F h t len o f ∙ ap (map_ok h) (sym q) in
-    (err_by r e w ∙ ap answer (sym s), ap (λ r. left r old) (sym s))

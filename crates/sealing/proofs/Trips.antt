@@ -14,7 +14,7 @@ use Rattle.passes.specs.Scheme as scheme
 use Rattle.passes.proofs.RoundTrip as trip
 use Rattle.passes.proofs.RoundTrip.{Ready}
 use Rattle.passes.proofs.Coefficients.{length_coefficients, sum_coefficients}
-use Rattle.sealing.specs.Mode.{Maps, Inverse, sealed, unsealed, begun, sealing, unsealing, checked, with_inverse, Tweak, Buffer, Accepts, Dead, ThereAndBack, OneDeadTweak, Promises}
+use Rattle.sealing.specs.Mode.{Maps, Inverse, sealed, unsealed, begun, sealing, unsealing, checked, with_inverse, Tweak, Buffer, Accepts, Dead, ThereAndBack, OneDeadTweak, Promises, Promised, maps}
 use Rattle.passes.proofs.Walked.{size_pos}
 use Rattle.sealing.proofs.Agree.{sealed_agrees, unsealed_agrees, length_sealed, length_unsealed}
 
@@ -234,3 +234,9 @@ module _ {K : Type 0} {F : Ops K} (law : Laws F) where
         no_two_equal = λ m lo hi. law.masks m lo hi;
       };
     }
+
+-- what every cipher's laws promise of the mode
+pub promised : {C K : Type 0} {F : Ops K} (law : Laws F) (enc dec : C → K → K) → ((c : C) (b : K) → dec c (enc c b) ≡ b) → ((c : C) (b : K) → enc c (dec c b) ≡ b)
+    → (c : C) → Promised F (maps enc dec c)
+unfolding Promised
+promised law enc dec back forth c = promises law (maps enc dec c) (record { DE = back c; ED = forth c })

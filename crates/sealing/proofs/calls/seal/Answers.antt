@@ -1,27 +1,14 @@
--- what a refused beginning answers, and what an accepted one leaves
+-- what an accepted beginning leaves
 use Rattle.std.proofs.Common.{rules, ◌≡◌, ◌/◌, length}
 use Rattle.passes.specs.Rows.{on_blocks}
 use Rattle.passes.proofs.Walked.{on_buffer}
-use Rattle.sealing.specs.Mode.{Promised, left, sealing, maps, begun, sealed}
-use Rattle.sealing.proofs.Checks.{outcome_ok, outcome_err}
-use Rattle.sealing.proofs.Trips.{promises}
+use Rattle.sealing.specs.Mode.{left, sealing, maps, begun, sealed}
+use Rattle.sealing.proofs.Checks.{outcome_ok}
+use Rattle.sealing.proofs.Trips.{promised}
 use Rattle.sealing.proofs.calls.seal.Goals as goal
 
-pub returns-in_err-terms : goal.returns-in_err-terms
-unfolding Promised
-returns-in_err-terms g c =
-    let F = g.C.Block.Block.ops in
-    let k = c.args.cipher.now in
-    let m = maps g.C.Cipher.enc g.C.Cipher.dec k in
-    let T = c.args.tweak.now in
-    let bs = c.args.buffer.now in
-    let p = outcome_err F (length T) (length bs) (F.inverse (m.E (F.block T))) (λ L. (begun F m (F.block T) (length bs / F.size), L)) (λ p. on_blocks F p.0.m (sealed F m p.0) bs)
-    c.from_residual.result c.in_err-terms.field-0.0 bs c.in_err-terms.ensures.outcome c.from_residual.ensures.1 in
-    record {
-      answers = p.0;
-      leaves = p.1;
-      promises = promises g.met.C.Block.Block.laws m (record { DE = g.met.C.Cipher.back k; ED = g.met.C.Cipher.forth k });
-    }
+pub returns-in_err-terms-clause-promises : goal.returns-in_err-terms-clause-promises
+returns-in_err-terms-clause-promises g c = promised g.met.C.Block.Block.laws g.C.Cipher.enc g.C.Cipher.dec g.met.C.Cipher.back g.met.C.Cipher.forth c.args.cipher.now
 
 pub returns-clause-leaves : goal.returns-clause-leaves
 returns-clause-leaves g c =
@@ -39,7 +26,4 @@ returns-clause-leaves g c =
     search (rules, made)
 
 pub returns-clause-promises : goal.returns-clause-promises
-unfolding Promised
-returns-clause-promises g c =
-    let k = c.args.cipher.now in
-    promises g.met.C.Block.Block.laws (maps g.C.Cipher.enc g.C.Cipher.dec k) (record { DE = g.met.C.Cipher.back k; ED = g.met.C.Cipher.forth k })
+returns-clause-promises g c = promised g.met.C.Block.Block.laws g.C.Cipher.enc g.C.Cipher.dec g.met.C.Cipher.back g.met.C.Cipher.forth c.args.cipher.now
