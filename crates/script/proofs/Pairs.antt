@@ -1,8 +1,8 @@
 -- The pairs of a text, by their places.
-use Rattle.std.proofs.Common.{◌≡◌, ℕ, zero, suc, ◌+◌, ◌*◌, ◌<◌, List, [], get_or, drop, ap, ◌∙◌, arith, lit<}
+use Rattle.std.proofs.Common.{◌≡◌, ℕ, zero, suc, ◌+◌, ◌*◌, ◌<◌, List, [], get_or, drop, refl, ap, ◌∙◌, arith, lit<}
 use Rattle.std.proofs.lemmas.List.{get_or-take, get_or-drop}
 use Rattle.std.specs.Simd.{first_chunks}
-use Rattle.script.specs.Hex.{digit_value, pair, byte_at}
+use Rattle.script.specs.Hex.{byte_at}
 
 -- digit j of the pair at place k
 digit_at : (n k j : ℕ) (text : List ℕ) → k < n → j < 2 → get_or (get_or (first_chunks 2 n text) k []) j 0 ≡ get_or text (2 * k + j) 0
@@ -18,5 +18,4 @@ pub byte_of_pair : (n k : ℕ) (text : List ℕ) → k < n → byte_at (get_or (
 byte_of_pair n k text h =
     let high : get_or (get_or (first_chunks 2 n text) k []) 0 0 ≡ get_or text (2 * k) 0 = digit_at n k 0 text h (lit< tt) ∙ ap (λ (i : ℕ). get_or text i 0) (omega arith) in
     let low = digit_at n k 1 text h (lit< tt) in
-    ap (λ (d : ℕ). pair (digit_value d) (digit_value (get_or (get_or (first_chunks 2 n text) k []) 1 0))) high
-    ∙ ap (λ (d : ℕ). pair (digit_value (get_or text (2 * k) 0)) (digit_value d)) low
+    rw (high, low) refl

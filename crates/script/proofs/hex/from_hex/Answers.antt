@@ -1,8 +1,7 @@
 -- One more byte at the end leaves those before it, and the pairs are those of the whole text.
-use Rattle.std.proofs.Common.{ℕ, ◌<◌, List, [], length, get_or, sym, ap, ◌∙◌, arith, rules, below_more, ◌≡◌, ◌*◌, ◌/◌}
+use Rattle.std.proofs.Common.{length, arith, rules, below_more, ◌≡◌, ◌*◌, ◌/◌}
 use Rattle.std.proofs.lemmas.Grind.{common_steps}
 use Rattle.std.proofs.lemmas.Bool.Decides.{nat_tests}
-use Rattle.script.specs.Hex.{byte_at}
 use Rattle.script.proofs.Pairs.{byte_of_pair}
 use Rattle.script.proofs.hex.from_hex.Goals as goal
 
@@ -15,15 +14,12 @@ loop-pair-preserved c = (
 pub returns : goal.returns
 returns c =
     let text = c.args.text.now in
-    let n = length text / 2 in
-    let pairs = c.as_chunks.ensures.front in
     let long : length text ≡ 2 * length c.loop-pair.bytes.items = grind (arith, nat_tests) in
     record {
       long = long;
       each =
           λ k h.
-          let l : k < n = omega (arith, long) in
-          sym (byte_of_pair n k text l)
-          ∙ ap (λ (ps : List (List ℕ)). byte_at (get_or ps k []) 0) (sym pairs)
-          ∙ c.loop-pair.invariant.1 k (omega (arith, c.loop-pair.invariant.0));
+          let pair = byte_of_pair (length text / 2) k text (omega (arith, long)) in
+          let spelled = c.loop-pair.invariant.1 k (omega (arith, c.loop-pair.invariant.0)) in
+          grind (arith, common_steps);
     }
