@@ -3,6 +3,7 @@ use Rattle.std.specs.Prelude.{◌≡◌, ℕ, zero, suc, ◌*◌, ◌/◌, ◌%�
 use Rattle.std.proofs.Common.{sym, ap, ap₂, ◌∙◌, subst, mod-eq_of_lt, mod-lt, arith, pow_pos, eqb-true}
 use Rattle.std.specs.Int.Bits.{xor_zero_r, xor_assoc, xor_self}
 use Rattle.std.proofs.lemmas.Nat.{xor_lt, xor_comm}
+use Rattle.std.proofs.Math.Nat.{mul-div_cancel}
 use Rattle.std.proofs.Math.Pow.{pow-lt}
 use Rattle.field.specs.Bytes as octets
 use Rattle.field.specs.Field as field
@@ -181,3 +182,7 @@ module _ {E : Type 0} (n f : ℕ) (value : E → ℕ) (m : Modulus n f) (e : Num
         bytes_add = bytes_add;
         masks = masks;
       }
+
+-- a kind whose elements have b bytes has the size b
+pub size_of : (b n : ℕ) → b * 8 ≡ n → b ≡ n / 8
+size_of b n e = sym (mul-div_cancel b (omega arith)) ∙ ap (λ k. k / 8) e

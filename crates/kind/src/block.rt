@@ -1,5 +1,5 @@
 // What a kind of block gives, and what it owes.
-ghost use Rattle.std.specs.Prelude.{◌≡◌, length};
+ghost use Rattle.std.specs.Prelude.{◌≡◌, ℕ, length};
 ghost use Rattle.kind.specs.Laws.{Ops, Laws, bin};
 
 // The most blocks that are sealed together.
@@ -11,11 +11,16 @@ pub trait Block: Copy {
     // The bytes of a block: 8, 16, 32, 64 or 128.
     const BYTES: usize;
 
+    ghost BYTES: { ℕ };
+
     ghost ops: { Ops Self };
 
     // The constant BYTES.
     fn size() -> usize
-        ensures { result ≡ ops.size };
+        ensures { result ≡ ops.size }
+    {
+        Self::BYTES
+    }
 
     // The zero, which added changes no element.
     fn zero() -> Self
@@ -61,4 +66,7 @@ pub trait Block: Copy {
         ensures { into.new ≡ ops.bytes self };
 
     ghost laws: { Laws ops };
+
+    // The constant is the size that the operations have.
+    ghost sized: { BYTES ≡ ops.size };
 }

@@ -1,6 +1,6 @@
 // The polynomial kinds as kinds of block.
 ghost use Rattle.kind.specs.Polynomials.{poly_ops};
-ghost use Rattle.kind.specs.PolynomialsLemmas.{poly_laws};
+ghost use Rattle.kind.specs.PolynomialsLemmas.{poly_laws, size_of};
 
 use crate::block::Block;
 use poly::{Field, Poly, inverted};
@@ -9,13 +9,13 @@ use poly::{Field, Poly, inverted};
 impl<P: Field> Block for P {
     const BYTES: usize = <P as Field>::BYTES;
 
+    ghost BYTES = { P.BYTES };
+
     ghost ops = { poly_ops P.width P.modulus P.value P.numbers };
 
     ghost laws = { let p = P.Poly in poly_laws p.width p.modulus p.value p.field p.numbers };
 
-    fn size() -> usize {
-        <P as Field>::size()
-    }
+    ghost sized = { size_of P.BYTES P.Poly.width P.whole };
 
     fn zero() -> P {
         <P as Poly>::zero()
