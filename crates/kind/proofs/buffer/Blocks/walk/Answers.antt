@@ -18,7 +18,7 @@ loop-i-preserved g c =
       c.store.ensures.same ∙ so_far.0,
       c.store.ensures.count ∙ so_far.1,
       turn g.K.Block.ops g.S.Step.out g.S.Step.next c.args.s.now old.count old.bytes.now now.count now.bytes.now c.store.new.self.bytes.now c.loop-i.i c.loop-i.s c.step-r.new.self c.load-b.result
-      c.step-r.result so_far.1 (omega arith) so_far.2 c.load-b.ensures c.step-r.ensures.value c.store.ensures.value c.step-r.ensures.state,
+          c.step-r.result so_far.1 (omega arith) so_far.2 c.load-b.ensures c.step-r.ensures.value c.store.ensures.value c.step-r.ensures.state,
     )
 
 pub returns : goal.returns
