@@ -46,20 +46,21 @@ pub(crate) fn first_masks<K: Block>(value: K, m: u16) -> Masks<K>
     ensures { result ≡ first_masks K.ops value m }
 {
     let t = m / 3;
-    let rest = m % 3;
-    if rest == 0 {
-        let first = value.double();
-        return Masks::Alone {
-            first,
-            at: first,
-            left: 2 * t,
-        };
-    }
-    Masks::Head {
-        value,
-        at: value,
-        left: rest + 3,
-        alone: 2 * (t - 1),
+    match m % 3 {
+        0 => {
+            let first = value.double();
+            Masks::Alone {
+                first,
+                at: first,
+                left: 2 * t,
+            }
+        }
+        rest => Masks::Head {
+            value,
+            at: value,
+            left: rest + 3,
+            alone: 2 * (t - 1),
+        },
     }
 }
 
