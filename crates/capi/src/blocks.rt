@@ -9,6 +9,8 @@ use cipher::Whitened;
 use kind::Block;
 use xtea::Xtea;
 
+// Kept: slices whose length the next three ask for, as a block's own `load` and `store` do: an array's length can't be the size of a kind's block.
+
 // Puts what a map gives of a block in the block's place.
 fn replace<K: Block, F: FnOnce(K) -> K>(block: &mut [u8], map: F)
     requires whole { length block.old ≡ K.ops.size }

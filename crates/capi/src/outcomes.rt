@@ -6,6 +6,8 @@ ghost use Rattle.capi.specs.Outcomes.{layer_code, places, outcome, sealing_outco
 use crate::outcome::Outcome;
 use fault::{Fault, Layer, SealFault};
 
+// Kept: an impl for each layer's refusals; one for both, over what becomes an `Outcome`, is refused as one that asks for itself.
+
 // The outcome of a direct sealing or unsealing.
 impl From<Result<(), SealFault>> for Outcome {
     ghost from_gives = { λ sealed result. result ≡ sealing_outcome sealed };

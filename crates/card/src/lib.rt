@@ -16,6 +16,9 @@ use sector::{Card, Ring};
 
 pub mod window;
 
+// Kept: each call takes the image and the ring, and is no method of a checked card, since the caller holds the image as plain bytes between the calls and each
+// call owes its own checks of whatever bytes it gets.
+
 // Writes the whole image: header, card number, every sector blank. Refuses 2, 'the image is not a header and 1 to 65,535 records long', and 10, 'the card
 // number is not one block long'.
 pub fn format<C: Cipher>(image: &mut [u8], number: &[u8]) -> Result<(), Fault>
@@ -36,6 +39,7 @@ pub fn open<C: Cipher>(image: &[u8], ring: &Ring<'_, C>) -> Result<(), Fault>
     ensures opens { IsRing (ciphers_of ring.now) → OpensExactlyCards (sectors C.Block.ops C.enc C.dec) (ciphers_of ring.now) image.now result }
 {
     let card = Card::of(image, ring)?;
+    // Kept: a `for` over the sectors' numbers, which a refusal names; `try_for_each` says no more.
     for sector in 0..card.sectors() {
         card.check(sector)?;
     }

@@ -228,6 +228,7 @@ impl fmt::Display for Fault {
 }
 
 // The place that the card adds to an outcome of sealing: `seal(..).at(sector, key)?`.
+// Kept: a trait of its own, since `From` sees the refusal alone, and not the place where it arose.
 pub trait At<T> {
     fn at(self, sector: usize, key: usize) -> Result<T, Fault>;
 }

@@ -8,6 +8,8 @@ ghost use Rattle.fieldapi.specs.Elements.{product, inverted, is_there};
 use kind::Block;
 use poly::{Short, Wide};
 
+// Kept: slices whose length the next two ask for, as a block's own `load` and `store` do: an array's length can't be the size of a kind's block.
+
 // Puts the product of two elements in place of the second.
 fn multiply<K: Block>(a: &[u8], b: &mut [u8])
     requires first { length a.now ≡ K.ops.size }

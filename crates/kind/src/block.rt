@@ -55,6 +55,8 @@ pub trait Block: Copy {
     fn inverse(self) -> Option<Self>
         ensures { result ≡ ops.inverse self };
 
+    // Kept: slices whose length the next two ask for, since no array's length can be the size of a kind's block.
+
     // The block of the bytes. Called with just the bytes of one block.
     fn load(from: &[u8]) -> Self
         requires { length from.now ≡ ops.size }

@@ -55,6 +55,7 @@ pub fn header_length<K: Block>() -> usize
 }
 
 // The header's second byte.
+// Kept: a byte and no enum of kinds, since it is the byte that the card holds, and it is worked out for every kind.
 pub fn kind_code<K: Block>() -> u8
     ensures { result ≡ kind_code K.ops.size }
 {

@@ -69,6 +69,8 @@ impl<'a, C: Cipher> Work<'a, C> {
         self.walk(&mut masks);
     }
 
+    // Kept: two methods of one line, E and D of each block, as the mode's passes name them.
+
     // E of each block.
     pub fn encrypt_all(&mut self)
         ensures { Changed (map (C.enc self.old.cipher.now)) self.old self.new }

@@ -24,6 +24,8 @@ pub enum Target {
     File(String),
 }
 
+// A call as a line has it.
+// Kept: an enum of its own beside the calls on a card, which have bytes where a line names a file, the sectors to make or where a text goes.
 #[derive(Drop)]
 pub enum Command {
     Format {

@@ -26,12 +26,14 @@ impl<C: Cipher> Sealer<'_, C> {
         }
     }
 
+    // Kept: room for the longest block, of which a block of this kind takes the front; nothing here is on a heap. And two methods that differ in the call: one
+    // that takes the call would need a contract on it that says of sealing and unsealing both what these say of each.
+
     // Seals the text in its place. Refuses 13, 'the tweak is dead', and leaves the text then.
     pub(crate) fn seal(&self, text: &mut [u8; SECTOR_LENGTH]) -> Result<(), SealFault>
         ensures outcome { result ≡ refused_if ((text_sealing C.Block.ops C.enc C.dec).dead self.now.cipher.now (C.Block.ops.bytes self.now.tweak)) }
         ensures sealed { text.new ≡ (text_sealing C.Block.ops C.enc C.dec).sealed self.now.cipher.now (C.Block.ops.bytes self.now.tweak) text.old }
     {
-        // Kept: room for the longest block, of which a block of this kind takes the front; nothing here is on a heap.
         let mut room = [0; 128];
         let tweak = &mut room[..C::Block::size()];
         self.tweak.store(tweak);

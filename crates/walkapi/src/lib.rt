@@ -14,7 +14,7 @@ use layout::Entry;
 use poly::{Short, Wide};
 
 // The byte of a sector: its key number, or 255 where it is blank.
-// Kept: a function, since a `From` would be between two types of other crates.
+// Kept: a number with 255 for blank, since C reads it, and a function, since a `From` would be between two types of other crates.
 fn code_of(entry: Entry<'_>) -> u64
     ensures { result ≡ code (held entry.entry) }
 {

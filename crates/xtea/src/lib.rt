@@ -159,7 +159,7 @@ fn word_at(bytes: &[u8], i: usize) -> u32
     requires { i + 4 ≤ length bytes.now }
     ensures { result ≡ word_at bytes.now i }
 {
-    u32::from_be_bytes([bytes[i], bytes[i + 1], bytes[i + 2], bytes[i + 3]])
+    u32::from_be_bytes(bytes[i..i + 4].try_into().unwrap())
 }
 
 #[cfg(test)]
