@@ -9,7 +9,6 @@ use Rattle.sealing.specs.Mode.{Maps, begun, sealed, sealing, answer, left, first
 use Rattle.sealing.proofs.Agree.{length_first, length_second, passes_seal}
 use Rattle.sealing.proofs.Checks.{outcome_ok}
 use Rattle.stages.specs.declared.Stage.{Stage}
-use Rattle.stages.specs.declared.Text.{Text}
 use Rattle.stages.specs.declared.Refused.{Refused}
 use Rattle.stages.specs.Stages.{beginning, next_or_back, after_pass}
 
@@ -37,7 +36,7 @@ module _ {K : Type 0} {F : Ops K} (law : Laws F) (c : Maps K) where
       → Ok h ≡ next_or_back F s (length old) n stage → new ≡ after_pass F s pass old → new ≡ on_blocks F s.m pass old
   changed s pass h n stage old new p q = (passed s pass h n stage old new p q).buffer
 
-  pub in_order : (T bs : List ℕ) (b : Stage K Text) (b₁ b₂ b₃ : List ℕ) → Ok b ≡ beginning F c T (length bs)
+  pub in_order : (T bs : List ℕ) (b : Stage K 0) (b₁ b₂ b₃ : List ℕ) → Ok b ≡ beginning F c T (length bs)
       → b₁ ≡ on_blocks F b.terms.m (first_pass F c b.terms) bs
       → b₂ ≡ on_blocks F b.terms.m (second_pass F c b.terms) b₁
       → b₃ ≡ on_blocks F b.terms.m (third_pass F c b.terms) b₂
@@ -49,5 +48,5 @@ module _ {K : Type 0} {F : Ops K} (law : Laws F) (c : Maps K) where
       let three : b₃ ≡ on_blocks F s.m (sealed F c s) bs =
       then_on law s.m (λ ks. second_pass F c s (first_pass F c s ks)) (third_pass F c s) bs b₂ b₃ (λ ks. length_second law c s _ ∙ length_first law c s ks) two p₃
       ∙ ap (flat F) (passes_seal law c s (blocks F s.m bs)) in
-      outcome_ok F (length T) (length bs) (F.inverse (c.E (F.block T))) (λ L. record { terms = begun F c (F.block T) (length bs / F.size); holds = record {} })
+      outcome_ok F (length T) (length bs) (F.inverse (c.E (F.block T))) (λ L. record { terms = begun F c (F.block T) (length bs / F.size) })
       (λ stage. on_blocks F stage.terms.m (sealed F c stage.terms) bs) b bs b₃ e three

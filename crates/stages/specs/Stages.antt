@@ -7,17 +7,16 @@ use Rattle.passes.specs.declared.terms.Terms.{Terms}
 use Rattle.passes.specs.Rows.{on_blocks}
 use Rattle.sealing.specs.Mode.{Maps, begun, checked}
 use Rattle.stages.specs.declared.Stage.{Stage}
-use Rattle.stages.specs.declared.Text.{Text}
 use Rattle.stages.specs.declared.Refused.{Refused}
 
 -- each stage holds the same terms as the one before
-abbrev pub next_stage : {K H N : Type 0} → Stage K H → Stage K N
-next_stage stage = record { terms = stage.terms; holds = record {} }
+abbrev pub next_stage : {K : Type 0} {done next : ℕ} → Stage K done → Stage K next
+next_stage stage = record { terms = stage.terms }
 
 module _ {K : Type 0} (F : Ops K) where
   -- the stage that a sealing of len bytes under the tweak T begins with, refused as a direct sealing is
-  abbrev pub beginning : Maps K → List ℕ → ℕ → Result (Stage K Text) SealFault
-  beginning c T len = checked F (length T) len (F.inverse (c.E (F.block T))) (λ L. record { terms = begun F c (F.block T) (len / F.size); holds = record {} })
+  abbrev pub beginning : Maps K → List ℕ → ℕ → Result (Stage K 0) SealFault
+  beginning c T len = checked F (length T) len (F.inverse (c.E (F.block T))) (λ L. record { terms = begun F c (F.block T) (len / F.size) })
 
   -- what a pass answers on a buffer of len bytes: the next stage where it is as long as was begun, and else the stage itself, with refusal 14
   abbrev pub next_or_back : {S N : Type 0} → Terms K → ℕ → N → S → Result N (Refused S)

@@ -13,65 +13,22 @@ use kind::Block;
 use passes::{Terms, Work};
 use sealing::blocks::{first_pass, second_pass, third_pass};
 use sealing::prepare;
-use std::marker::PhantomData;
 
-// What a stage's buffer holds: the text, before any pass.
-pub enum Text {}
-
-// The blocks PP, after the first pass.
-pub enum Pp {}
-
-// The blocks CCC, after the second pass.
-pub enum Ccc {}
-
-// A sealing under way: R, EN, EEN by value and the number m of blocks, and in its type what the buffer holds. Its fields are private, so that only
-// `begin` and the passes make one.
+// A sealing of which PASSES passes are done: R, EN, EEN by value and the number m of blocks. Its field is private, so that only `begin` and the passes
+// make one.
 #[derive(Drop)]
-pub struct Stage<K, H> {
+pub struct Stage<K, const PASSES: usize> {
     terms: Terms<K>,
-    holds: PhantomData<H>,
 }
 
 // A sealing that has begun.
-pub type Begun<K> = Stage<K, Text>;
+pub type Begun<K> = Stage<K, 0>;
 
 // A sealing after its first pass: the buffer holds the blocks PP.
-pub type Hashed<K> = Stage<K, Pp>;
+pub type Hashed<K> = Stage<K, 1>;
 
 // A sealing after its second pass: the buffer holds the blocks CCC.
-pub type Enciphered<K> = Stage<K, Ccc>;
-
-impl<K: Block, H> Stage<K, H> {
-    // The stage of these terms.
-    fn of(terms: Terms<K>) -> Self
-        ensures { result.terms ≡ terms }
-    {
-        Stage {
-            terms,
-            holds: PhantomData,
-        }
-    }
-
-    // The stage itself where a buffer of `len` bytes has m blocks; else it is refused (14) and handed back.
-    fn for_buffer(self, len: usize) -> Result<Stage<K, H>, Refused<Stage<K, H>>>
-        ensures { result ≡ next_or_back K.ops self.terms len self self }
-    {
-        if len != self.terms.m as usize * K::size() {
-            return Err(Refused {
-                stage: self,
-                fault: SealFault::OtherLength,
-            });
-        }
-        Ok(self)
-    }
-
-    // The stage after this one.
-    fn next<N>(self) -> Stage<K, N>
-        ensures { result ≡ next_stage self }
-    {
-        Stage::of(self.terms)
-    }
-}
+pub type Enciphered<K> = Stage<K, 2>;
 
 // A refused pass: its fault, and the stage that it was given, which can be used again.
 #[derive(Drop)]
@@ -89,12 +46,25 @@ impl<S: Drop> From<Refused<S>> for SealFault {
     }
 }
 
+// The stage itself where a buffer of `len` bytes has the m blocks of its terms; else it is refused (14) and handed back.
+fn for_buffer<K: Block, S>(terms: &Terms<K>, stage: S, len: usize) -> Result<S, Refused<S>>
+    ensures { result ≡ next_or_back K.ops terms.now len stage stage }
+{
+    if len != terms.m as usize * K::size() {
+        return Err(Refused {
+            stage,
+            fault: SealFault::OtherLength,
+        });
+    }
+    Ok(stage)
+}
+
 // Begins a sealing of a buffer of `len` bytes. Refuses as a direct sealing does: 10, 11, 12, 13, in this order.
 pub fn begin<C: Cipher>(cipher: &C, tweak: &[u8], len: usize) -> Result<Begun<C::Block>, SealFault>
     ensures { result ≡ beginning C.Block.ops (maps C.enc C.dec cipher.now) tweak.now len }
 {
     let (terms, _l) = prepare(cipher, tweak, len)?;
-    Ok(Stage::of(terms))
+    Ok(Stage { terms })
 }
 
 // The first pass turns the text into the blocks PP (one block stays as it is). Refuses a buffer of another length than was begun (14): then it hands
@@ -107,9 +77,10 @@ pub fn hash<C: Cipher>(
     ensures answers { result ≡ next_or_back C.Block.ops stage.terms (length buffer.old) (next_stage stage) stage }
     ensures leaves { buffer.new ≡ after_pass C.Block.ops stage.terms (first_pass C.Block.ops (maps C.enc C.dec cipher.now) stage.terms) buffer.old }
 {
-    let begun = stage.for_buffer(buffer.len())?;
+    let terms = stage.terms;
+    let begun = for_buffer(&terms, stage, buffer.len())?;
     first_pass(&mut Work::on(cipher, &begun.terms, buffer));
-    Ok(begun.next())
+    Ok(Stage { terms: begun.terms })
 }
 
 // The second pass turns the blocks PP into the CCC. Refuses as the first pass does (14).
@@ -121,9 +92,12 @@ pub fn encipher<C: Cipher>(
     ensures answers { result ≡ next_or_back C.Block.ops stage.terms (length buffer.old) (next_stage stage) stage }
     ensures leaves { buffer.new ≡ after_pass C.Block.ops stage.terms (second_pass C.Block.ops (maps C.enc C.dec cipher.now) stage.terms) buffer.old }
 {
-    let hashed = stage.for_buffer(buffer.len())?;
+    let terms = stage.terms;
+    let hashed = for_buffer(&terms, stage, buffer.len())?;
     second_pass(&mut Work::on(cipher, &hashed.terms, buffer));
-    Ok(hashed.next())
+    Ok(Stage {
+        terms: hashed.terms,
+    })
 }
 
 // The third pass turns the blocks CCC into the sealed ones. Refuses as the first pass does (14).
@@ -135,7 +109,8 @@ pub fn finish<C: Cipher>(
     ensures answers { result ≡ next_or_back C.Block.ops stage.terms (length buffer.old) tt stage }
     ensures leaves { buffer.new ≡ after_pass C.Block.ops stage.terms (third_pass C.Block.ops (maps C.enc C.dec cipher.now) stage.terms) buffer.old }
 {
-    let enciphered = stage.for_buffer(buffer.len())?;
+    let terms = stage.terms;
+    let enciphered = for_buffer(&terms, stage, buffer.len())?;
     third_pass(&mut Work::on(cipher, &enciphered.terms, buffer));
     Ok(())
 }
