@@ -20,6 +20,7 @@ use Rattle.passes.proofs.Algebra.{one_mul}
 use Rattle.passes.proofs.Coefficients.{masks_over}
 use Rattle.passes.proofs.Counts.{by_count_many, by_count_one, by_count_two}
 
+-- no block is empty
 pub size_pos : (n : ℕ) → Size n → 0 < n
 size_pos n (inl e) = omega arith
 size_pos n (inr (inl e)) = omega arith
