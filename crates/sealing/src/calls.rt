@@ -33,11 +33,8 @@ pub fn prepare<C: Cipher>(
     }
     let t = C::Block::load(tweak);
     let r = cipher.encrypt(t);
-    let count = C::Block::numbered(m as u64);
-    let before = r.add(count);
-    let en = cipher.encrypt(before);
-    let doubled = en.double();
-    let een = cipher.encrypt(doubled);
+    let en = cipher.encrypt(r.add(C::Block::numbered(m as u64)));
+    let een = cipher.encrypt(en.double());
     let terms = Terms {
         r,
         en,
