@@ -5,8 +5,8 @@ ghost use Rattle.kind.specs.Laws.{Ops, Laws, bin};
 // The most blocks that are sealed together.
 pub const MOST_BLOCKS: usize = 64;
 
-// A kind of block: a field whose elements are strings of bytes. `ops` are its operations, and `laws` what it shows of them for all its
-// elements: a later kind owes these and nothing else.
+// A kind of block: a field whose elements are strings of bytes. `ops` are its operations. `laws` is what it shows of them for all its elements, and
+// `sized` that the constant BYTES is the size of the operations: a later kind owes these two and nothing else.
 pub trait Block: Copy {
     // The bytes of a block: 8, 16, 32, 64 or 128.
     const BYTES: usize;

@@ -19,7 +19,7 @@ pub trait Step<K> {
         ensures state { self.new ≡ next self.old b };
 }
 
-// Kept: both walks count the places. After `chunks_exact_mut` a proof knows how long the buffer is, but not what its chunks hold.
+// Kept: both walks count the places. Tried with `chunks_exact_mut`: after it a proof knows how long the buffer is, but not what its chunks hold.
 impl<'a, K: Block> Blocks<'a, K> {
     // Takes the step at each block, first to last, and puts what it gives in the block's place.
     pub fn walk<S: Step<K>>(&mut self, s: &mut S)
