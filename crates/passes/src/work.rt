@@ -7,6 +7,7 @@ use kind::pass::Step;
 use kind::{Block, Blocks};
 
 // What each pass works with: the cipher, the terms, and the caller's buffer, which is as many whole blocks as the terms say.
+// Kept: the buffer beside the terms that have its count. Tried with a `Blocks` as a field, and the terms by value: a caller's proof then knows only its length.
 #[derive(Drop)]
 pub struct Work<'a, C: Cipher> {
     pub cipher: &'a C,
