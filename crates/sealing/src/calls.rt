@@ -44,11 +44,13 @@ pub fn prepare<C: Cipher>(
     if m == 1 {
         return Ok((terms, C::Block::zero()));
     }
-    let Some(l) = r.inverse() else {
-        return Err(SealFault::DeadTweak { cause: NoInverse });
-    };
+    let l = r
+        .inverse()
+        .ok_or(SealFault::DeadTweak { cause: NoInverse })?;
     Ok((terms, l))
 }
+
+// Kept: `seal` and `unseal` are two public promises. What they share is `prepare`, and each has its own change in one line.
 
 // Seals the text in `buffer` under the tweak, in its place. Refuses as `prepare` does (10, 11, 12, 13, in this order) and then leaves every byte.
 // One block is accepted under every tweak.
