@@ -47,8 +47,9 @@ impl<S: Drop> From<Refused<S>> for SealFault {
 }
 
 // The stage itself where a buffer of `len` bytes has the m blocks of its terms; else it is refused (14) and handed back.
-fn for_buffer<K: Block, S>(terms: &Terms<K>, stage: S, len: usize) -> Result<S, Refused<S>>
-    ensures { result ≡ next_or_back K.ops terms.now len stage stage }
+// Kept: the terms beside the stage. Tried as a method of `Stage<K, PASSES>`: then each call owes that a stage finds room in memory, which nothing says of K.
+fn for_buffer<K: Block, S>(terms: Terms<K>, stage: S, len: usize) -> Result<S, Refused<S>>
+    ensures { result ≡ next_or_back K.ops terms len stage stage }
 {
     if len != terms.m as usize * K::size() {
         return Err(Refused {
@@ -67,6 +68,8 @@ pub fn begin<C: Cipher>(cipher: &C, tweak: &[u8], len: usize) -> Result<Begun<C:
     Ok(Stage { terms })
 }
 
+// Kept: three public passes with a contract each. A common function would be given the terms, the stage and the next one beside the pass, as `for_buffer` is.
+
 // The first pass turns the text into the blocks PP (one block stays as it is). Refuses a buffer of another length than was begun (14): then it hands
 // the stage back and leaves every byte.
 pub fn hash<C: Cipher>(
@@ -77,8 +80,7 @@ pub fn hash<C: Cipher>(
     ensures answers { result ≡ next_or_back C.Block.ops stage.terms (length buffer.old) (next_stage stage) stage }
     ensures leaves { buffer.new ≡ after_pass C.Block.ops stage.terms (first_pass C.Block.ops (maps C.enc C.dec cipher.now) stage.terms) buffer.old }
 {
-    let terms = stage.terms;
-    let begun = for_buffer(&terms, stage, buffer.len())?;
+    let begun = for_buffer(stage.terms, stage, buffer.len())?;
     first_pass(&mut Work::on(cipher, &begun.terms, buffer));
     Ok(Stage { terms: begun.terms })
 }
@@ -92,8 +94,7 @@ pub fn encipher<C: Cipher>(
     ensures answers { result ≡ next_or_back C.Block.ops stage.terms (length buffer.old) (next_stage stage) stage }
     ensures leaves { buffer.new ≡ after_pass C.Block.ops stage.terms (second_pass C.Block.ops (maps C.enc C.dec cipher.now) stage.terms) buffer.old }
 {
-    let terms = stage.terms;
-    let hashed = for_buffer(&terms, stage, buffer.len())?;
+    let hashed = for_buffer(stage.terms, stage, buffer.len())?;
     second_pass(&mut Work::on(cipher, &hashed.terms, buffer));
     Ok(Stage {
         terms: hashed.terms,
@@ -109,8 +110,7 @@ pub fn finish<C: Cipher>(
     ensures answers { result ≡ next_or_back C.Block.ops stage.terms (length buffer.old) tt stage }
     ensures leaves { buffer.new ≡ after_pass C.Block.ops stage.terms (third_pass C.Block.ops (maps C.enc C.dec cipher.now) stage.terms) buffer.old }
 {
-    let terms = stage.terms;
-    let enciphered = for_buffer(&terms, stage, buffer.len())?;
+    let enciphered = for_buffer(stage.terms, stage, buffer.len())?;
     third_pass(&mut Work::on(cipher, &enciphered.terms, buffer));
     Ok(())
 }
