@@ -33,6 +33,7 @@ pub enum Call {
 }
 
 // A call of a list and its outcome, which stands there once the list was run.
+// Kept: the outcome stands as accepted until then and is no `Option`, since a list is run at once and in whole, and each reader would unwrap it.
 #[derive(Drop)]
 pub struct Step {
     pub call: Call,

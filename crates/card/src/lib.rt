@@ -12,12 +12,15 @@ use cipher::Cipher;
 use fault::Fault;
 use kind::Block;
 use layout::{RECORD_LENGTH, SECTOR_LENGTH};
-use sector::{Card, Ring};
+use sector::{Card, Ring, Sector};
 
 pub mod window;
 
 // Kept: each call takes the image and the ring, and is no method of a checked card, since the caller holds the image as plain bytes between the calls and each
 // call owes its own checks of whatever bytes it gets.
+
+// Kept: `write`, `rekey` and `copy` end with the same three lines; the record is made while the image is borrowed, so one function for them would need the
+// record made before it, and what it saves is one line of the three.
 
 // Writes the whole image: header, card number, every sector blank. Refuses 2, 'the image is not a header and 1 to 65,535 records long', and 10, 'the card
 // number is not one block long'.
@@ -41,7 +44,7 @@ pub fn open<C: Cipher>(image: &[u8], ring: &Ring<'_, C>) -> Result<(), Fault>
     let card = Card::of(image, ring)?;
     // Kept: a `for` over the sectors' numbers, which a refusal names; `try_for_each` says no more.
     for sector in 0..card.sectors() {
-        card.check(sector)?;
+        Sector::at(image, ring, sector).check()?;
     }
     Ok(())
 }
@@ -58,12 +61,10 @@ pub fn write<C: Cipher>(
     ensures { Acts (sectors C.Block.ops C.enc C.dec) (ciphers_of ring.now) image.old (Writing sector key text.now) result image.new }
 {
     let card = Card::of(image, ring)?;
-    card.has_sector(sector)?;
+    let at = card.sector(sector)?;
     card.has_key(key)?;
-    let Some(text) = text.as_array() else {
-        return Err(Fault::TextLength);
-    };
-    let record = card.sealed_record(sector, key, text)?;
+    let text = text.as_array().ok_or(Fault::TextLength)?;
+    let record = at.sealed_record(key, text)?;
     layout::put_record::<C::Block>(image, sector, &record);
     Ok(())
 }
@@ -79,11 +80,11 @@ pub fn read<C: Cipher>(
     ensures { ReadsText (sectors C.Block.ops C.enc C.dec) (ciphers_of ring.now) image.now sector buffer.old result buffer.new }
 {
     let card = Card::of(image, ring)?;
-    card.has_sector(sector)?;
+    let at = card.sector(sector)?;
     if buffer.len() != SECTOR_LENGTH {
         return Err(Fault::TextLength);
     }
-    let (_, text) = card.text(sector)?;
+    let (_, text) = at.text()?;
     buffer.copy_from_slice(&text);
     Ok(())
 }
@@ -98,10 +99,10 @@ pub fn rekey<C: Cipher>(
     ensures { Acts (sectors C.Block.ops C.enc C.dec) (ciphers_of ring.now) image.old (Rekeying sector new_key) result image.new }
 {
     let card = Card::of(image, ring)?;
-    card.has_sector(sector)?;
+    let at = card.sector(sector)?;
     card.has_key(new_key)?;
-    let (_old_key, text) = card.text(sector)?;
-    let record = card.sealed_record(sector, new_key, &text)?;
+    let (_old_key, text) = at.text()?;
+    let record = at.sealed_record(new_key, &text)?;
     layout::put_record::<C::Block>(image, sector, &record);
     Ok(())
 }
@@ -116,10 +117,10 @@ pub fn copy<C: Cipher>(
     ensures { Acts (sectors C.Block.ops C.enc C.dec) (ciphers_of ring.now) image.old (Copying source destination) result image.new }
 {
     let card = Card::of(image, ring)?;
-    card.has_sector(source)?;
-    card.has_sector(destination)?;
-    let (key, text) = card.text(source)?;
-    let record = card.sealed_record(destination, key, &text)?;
+    let from = card.sector(source)?;
+    let to = card.sector(destination)?;
+    let (key, text) = from.text()?;
+    let record = to.sealed_record(key, &text)?;
     layout::put_record::<C::Block>(image, destination, &record);
     Ok(())
 }

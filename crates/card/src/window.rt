@@ -68,6 +68,5 @@ pub fn try_read<C: Cipher>(
     ensures wiped { buffer.new ≡ replicate (length buffer.old) 0 }
 {
     let mut window = Window::over(buffer);
-    window.read(image, ring, sector)?;
-    Ok(())
+    window.read(image, ring, sector)
 }

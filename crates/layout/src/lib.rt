@@ -66,9 +66,10 @@ pub fn kind_code<K: Block>() -> u8
 pub fn sector_count<K: Block>(image: &[u8]) -> Result<usize, Fault>
     ensures { result ≡ (if not (is_sized K.ops.size image.now) then Err ImageLength else Ok (count_of K.ops.size image.now)) }
 {
-    let Some(len) = image.len().checked_sub(header_length::<K>()) else {
-        return Err(Fault::ImageLength);
-    };
+    let len = image
+        .len()
+        .checked_sub(header_length::<K>())
+        .ok_or(Fault::ImageLength)?;
     let count = len / RECORD_LENGTH;
     if len % RECORD_LENGTH != 0 || count < 1 || count > MOST_SECTORS {
         return Err(Fault::ImageLength);

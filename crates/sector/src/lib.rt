@@ -4,6 +4,8 @@
 mod card;
 mod ring;
 mod sealer;
+mod sector;
 
 pub use card::Card;
 pub use ring::Ring;
+pub use sector::Sector;

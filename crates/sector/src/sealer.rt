@@ -23,10 +23,11 @@ impl<C: Cipher> Sealer<'_, C> {
     pub(crate) fn check(&self) -> Result<(), SealFault>
         ensures { result ≡ refused_if ((text_sealing C.Block.ops C.enc C.dec).dead self.now.cipher.now (C.Block.ops.bytes self.now.tweak)) }
     {
-        match self.cipher.encrypt(self.tweak).inverse() {
-            Some(_) => Ok(()),
-            None => Err(SealFault::DeadTweak { cause: NoInverse }),
-        }
+        self.cipher
+            .encrypt(self.tweak)
+            .inverse()
+            .ok_or(SealFault::DeadTweak { cause: NoInverse })?;
+        Ok(())
     }
 
     // The bytes of the tweak, which are put into the front of the room.

@@ -29,14 +29,15 @@ returns-in_err-key g c =
     let s = c.args.source in
     let d = c.args.destination in
     let is = c.in_ok-card.ensures.card in
+    let from = c.in_ok-from.ensures.sector in
     let head = ring_and_image_checks S ring v in
     let front = passed head (count_of S.width image) c.in_ok-card.card.count c.in_ok-card.ensures.outcome in
-    let there = passed (sector_check S ring v s ∷ []) tt tt (rw is.0 at c.in_ok-has_sector.ensures) in
-    let also = passed (sector_check S ring v d ∷ []) tt tt (rw is.0 at c.in_ok-has_sector-2.ensures) in
+    let there = passed (sector_check S ring v s ∷ []) tt tt (rw is.0 at c.in_ok-from.ensures.outcome) in
+    let also = passed (sector_check S ring v d ∷ []) tt tt (rw is.0 at c.in_ok-to.ensures.outcome) in
     let asked : List Check = sector_check S ring v s ∷ sector_check S ring v d ∷ [] in
     acts_refused S ring image (copy s d) (head ++ asked) (source_checks S ring v s) _ _ c.in_err-key.field-0.0 c.from_residual-in_err-key.result refl
     (both head asked front (both (sector_check S ring v s ∷ []) (sector_check S ring v d ∷ []) there also))
-    (rw (is.0, is.1) at c.in_err-key.ensures) c.from_residual-in_err-key.ensures.1
+    (rw (from.0, from.1, from.2, is.0, is.1) at c.in_err-key.ensures.text) c.from_residual-in_err-key.ensures.1
 
 pub returns : goal.returns
 returns g c =
@@ -47,12 +48,14 @@ returns g c =
     let s = c.args.source in
     let d = c.args.destination in
     let is = c.in_ok-card.ensures.card in
+    let from = c.in_ok-from.ensures.sector in
+    let to = c.in_ok-to.ensures.sector in
     let head = ring_and_image_checks S ring v in
     let front = passed head (count_of S.width image) c.in_ok-card.card.count c.in_ok-card.ensures.outcome in
-    let there = passed (sector_check S ring v s ∷ []) tt tt (rw is.0 at c.in_ok-has_sector.ensures) in
-    let also = passed (sector_check S ring v d ∷ []) tt tt (rw is.0 at c.in_ok-has_sector-2.ensures) in
-    let source = ruled_ok (source_checks S ring v s) _ _ (sym (rw (is.0, is.1) at c.in_ok-key.ensures)) in
-    let alive = ruled_ok (dead_check S ring v d c.in_ok-key.key ∷ []) _ _ (sym (rw (is.0, is.1) at c.in_ok-record.ensures)) in
+    let there = passed (sector_check S ring v s ∷ []) tt tt (rw is.0 at c.in_ok-from.ensures.outcome) in
+    let also = passed (sector_check S ring v d ∷ []) tt tt (rw is.0 at c.in_ok-to.ensures.outcome) in
+    let source = ruled_ok (source_checks S ring v s) _ _ (sym (rw (from.0, from.1, from.2, is.0, is.1) at c.in_ok-key.ensures.text)) in
+    let alive = ruled_ok (dead_check S ring v d c.in_ok-key.key ∷ []) _ _ (sym (rw (to.0, to.1, to.2, is.0, is.1) at c.in_ok-record.ensures)) in
     let last : Passed (dead_check S ring v d (key_of (v.sector s)) ∷ []) = subst (λ (j : ℕ). Passed (dead_check S ring v d j ∷ [])) (ap (λ (t : ℕ × List ℕ). t.0) source.1) alive.0 in
     let rest : List Check = source_checks S ring v s ++ (dead_check S ring v d (key_of (v.sector s)) ∷ []) in
     let asked : List Check = sector_check S ring v s ∷ sector_check S ring v d ∷ [] in

@@ -35,19 +35,18 @@ returns-in_err-check g c =
     let image = c.args.image.now in
     let v = image_view S ring image in
     let law = lawful_sectors g.met.C.Block.Block.laws g.C.Cipher.enc g.C.Cipher.dec g.met.C.Cipher.back g.met.C.Cipher.forth in
-    let is = c.in_ok-card.ensures.card in
     let s = c.loop-sector.sector in
-    let n = c.in_ok-card.card.count in
+    let n = c.sectors-sector-end.result in
     let f = c.in_err-check.field-0.0 in
     let p = err_from_is_err_and c.from_residual-in_err-check.result c.from_residual-in_err-check.ensures.1 in
-    let o = ruled_ok (ring_and_image_checks S ring v) (count_of S.width image) n (sym c.in_ok-card.ensures.outcome) in
-    let m : n - s ≡ suc (n - s - 1) = omega (arith, c.sectors-sector-end.ensures) in
+    let o = ruled_ok (ring_and_image_checks S ring v) (count_of S.width image) c.in_ok-card.card.count (sym c.in_ok-card.ensures.outcome) in
+    let m : n - s ≡ suc (n - s - 1) = omega arith in
     let e : Err f ≡ outcome_on S ring image opening =
     sym (ruled_on (ring_and_image_checks S ring v) (sector_checks S ring v 0 (count_of S.width image)) tt o.0
-    ∙ ap (λ (j : ℕ). verdict (sector_checks S ring v 0 j)) (sym o.1)
+    ∙ ap (λ (j : ℕ). verdict (sector_checks S ring v 0 j)) (sym (c.sectors-sector-end.ensures ∙ o.1))
     ∙ sym c.loop-sector.invariant
     ∙ ap (λ (j : ℕ). verdict (sector_checks S ring v s j)) m
-    ∙ sector_refused S ring image v s (n - s - 1) f (rw (is.0, is.1) at c.in_err-check.ensures)) in
+    ∙ sector_refused S ring image v s (n - s - 1) f (rw (c.at.ensures.image, c.at.ensures.ring, c.at.ensures.number) at c.in_err-check.ensures)) in
     let b : Bytes image = λ k. (c.type_inv.image k).fits in
     rw (p.1, p.2) (record { outcome = e; opens = λ ok. opened S law ring ok image (Err f) b e })
 
@@ -57,12 +56,11 @@ loop-sector-preserved g c =
     let ring = ciphers_of c.args.ring.now in
     let image = c.args.image.now in
     let v = image_view S ring image in
-    let is = c.in_ok-card.ensures.card in
     let s = c.loop-sector.sector in
-    let n = c.in_ok-card.card.count in
-    let m : n - s ≡ suc (n - (s + 1)) = omega (arith, c.sectors-sector-end.ensures) in
+    let n = c.sectors-sector-end.result in
+    let m : n - s ≡ suc (n - (s + 1)) = omega arith in
     let i : s + 1 ≡ suc s = omega arith in
-    let o = ruled_ok (sector_checks S ring v s 1) tt tt (sym (rw (is.0, is.1) at c.in_ok-check.ensures)) in
+    let o = ruled_ok (sector_checks S ring v s 1) tt tt (sym (rw (c.at.ensures.image, c.at.ensures.ring, c.at.ensures.number) at c.in_ok-check.ensures)) in
     ap (λ (k : ℕ). verdict (sector_checks S ring v k (n - (s + 1)))) i
     ∙ sym (sector_on S ring image v s (n - (s + 1)) o.0)
     ∙ ap (λ (j : ℕ). verdict (sector_checks S ring v s j)) (sym m)
@@ -76,12 +74,12 @@ returns g c =
     let v = image_view S ring image in
     let law = lawful_sectors g.met.C.Block.Block.laws g.C.Cipher.enc g.C.Cipher.dec g.met.C.Cipher.back g.met.C.Cipher.forth in
     let s = c.loop-sector.sector in
-    let n = c.in_ok-card.card.count in
-    let o = ruled_ok (ring_and_image_checks S ring v) (count_of S.width image) n (sym c.in_ok-card.ensures.outcome) in
-    let m : n - s ≡ 0 = omega (arith, c.sectors-sector-end.ensures) in
+    let n = c.sectors-sector-end.result in
+    let o = ruled_ok (ring_and_image_checks S ring v) (count_of S.width image) c.in_ok-card.card.count (sym c.in_ok-card.ensures.outcome) in
+    let m : n - s ≡ 0 = omega arith in
     let e : Ok tt ≡ outcome_on S ring image opening =
     sym (ruled_on (ring_and_image_checks S ring v) (sector_checks S ring v 0 (count_of S.width image)) tt o.0
-    ∙ ap (λ (j : ℕ). verdict (sector_checks S ring v 0 j)) (sym o.1)
+    ∙ ap (λ (j : ℕ). verdict (sector_checks S ring v 0 j)) (sym (c.sectors-sector-end.ensures ∙ o.1))
     ∙ sym c.loop-sector.invariant
     ∙ ap (λ (j : ℕ). verdict (sector_checks S ring v s j)) m) in
     let b : Bytes image = λ k. (c.type_inv.image k).fits in

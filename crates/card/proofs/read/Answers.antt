@@ -20,11 +20,12 @@ returns-in_err-text g c =
     let s = c.args.sector in
     let b = c.args.buffer.now in
     let is = c.in_ok-card.ensures.card in
+    let own = c.in_ok-at.ensures.sector in
     let head = ring_and_image_checks S ring v in
     let front = passed head (count_of S.width image) c.in_ok-card.card.count c.in_ok-card.ensures.outcome in
-    let there = passed (sector_check S ring v s ∷ []) tt tt (rw is.0 at c.in_ok-has_sector.ensures) in
+    let there = passed (sector_check S ring v s ∷ []) tt tt (rw is.0 at c.in_ok-at.ensures.outcome) in
     let long = text_passes S ring image b (omega arith) in
     let asked : List Check = sector_check S ring v s ∷ text_check S ring v b ∷ [] in
     reads_refused S ring image s b (head ++ asked) (source_checks S ring v s) [] _ c.in_err-text.field-0.0 c.from_residual-in_err-text.result refl
     (both head asked front (both (sector_check S ring v s ∷ []) (text_check S ring v b ∷ []) there long))
-    (rw (is.0, is.1) at c.in_err-text.ensures) c.from_residual-in_err-text.ensures.1
+    (rw (own.0, own.1, own.2, is.0, is.1) at c.in_err-text.ensures.text) c.from_residual-in_err-text.ensures.1

@@ -29,14 +29,15 @@ returns-in_err-_old_key g c =
     let s = c.args.sector in
     let k = c.args.new_key in
     let is = c.in_ok-card.ensures.card in
+    let own = c.in_ok-at.ensures.sector in
     let head = ring_and_image_checks S ring v in
     let front = passed head (count_of S.width image) c.in_ok-card.card.count c.in_ok-card.ensures.outcome in
-    let there = passed (sector_check S ring v s ∷ []) tt tt (rw is.0 at c.in_ok-has_sector.ensures) in
+    let there = passed (sector_check S ring v s ∷ []) tt tt (rw is.0 at c.in_ok-at.ensures.outcome) in
     let known = passed (key_check S ring v k ∷ []) tt tt (rw is.1 at c.in_ok-has_key.ensures) in
     let asked : List Check = sector_check S ring v s ∷ key_check S ring v k ∷ [] in
     acts_refused S ring image (rekey s k) (head ++ asked) (source_checks S ring v s) _ _ c.in_err-_old_key.field-0.0 c.from_residual-in_err-_old_key.result refl
     (both head asked front (both (sector_check S ring v s ∷ []) (key_check S ring v k ∷ []) there known))
-    (rw (is.0, is.1) at c.in_err-_old_key.ensures) c.from_residual-in_err-_old_key.ensures.1
+    (rw (own.0, own.1, own.2, is.0, is.1) at c.in_err-_old_key.ensures.text) c.from_residual-in_err-_old_key.ensures.1
 
 pub returns : goal.returns
 returns g c =
@@ -47,12 +48,13 @@ returns g c =
     let s = c.args.sector in
     let k = c.args.new_key in
     let is = c.in_ok-card.ensures.card in
+    let own = c.in_ok-at.ensures.sector in
     let head = ring_and_image_checks S ring v in
     let front = passed head (count_of S.width image) c.in_ok-card.card.count c.in_ok-card.ensures.outcome in
-    let there = passed (sector_check S ring v s ∷ []) tt tt (rw is.0 at c.in_ok-has_sector.ensures) in
+    let there = passed (sector_check S ring v s ∷ []) tt tt (rw is.0 at c.in_ok-at.ensures.outcome) in
     let known = passed (key_check S ring v k ∷ []) tt tt (rw is.1 at c.in_ok-has_key.ensures) in
-    let source = ruled_ok (source_checks S ring v s) _ _ (sym (rw (is.0, is.1) at c.in_ok-_old_key.ensures)) in
-    let alive = ruled_ok (dead_check S ring v s k ∷ []) _ _ (sym (rw (is.0, is.1) at c.in_ok-record.ensures)) in
+    let source = ruled_ok (source_checks S ring v s) _ _ (sym (rw (own.0, own.1, own.2, is.0, is.1) at c.in_ok-_old_key.ensures.text)) in
+    let alive = ruled_ok (dead_check S ring v s k ∷ []) _ _ (sym (rw (own.0, own.1, own.2, is.0, is.1) at c.in_ok-record.ensures)) in
     let rest : List Check = source_checks S ring v s ++ (dead_check S ring v s k ∷ []) in
     let asked : List Check = sector_check S ring v s ∷ key_check S ring v k ∷ [] in
     done S ring image (rekey s k) c.put_record.new.image

@@ -22,16 +22,17 @@ returns-in_err-record g c =
     let k = c.args.key in
     let t = c.args.text.now in
     let is = c.in_ok-card.ensures.card in
+    let own = c.in_ok-at.ensures.sector in
     let head = ring_and_image_checks S ring v in
     let front = passed head (count_of S.width image) c.in_ok-card.card.count c.in_ok-card.ensures.outcome in
-    let there = passed (sector_check S ring v s ∷ []) tt tt (rw is.0 at c.in_ok-has_sector.ensures) in
+    let there = passed (sector_check S ring v s ∷ []) tt tt (rw is.0 at c.in_ok-at.ensures.outcome) in
     let known = passed (key_check S ring v k ∷ []) tt tt (rw is.1 at c.in_ok-has_key.ensures) in
-    let chunk = rw c.in-Some.is at c.as_array.ensures.cases in
+    let chunk = rw c.in_ok-text.ensures.ok_part at c.as_array.ensures.cases in
     let asked : List Check = sector_check S ring v s ∷ key_check S ring v k ∷ text_check S ring v t ∷ [] in
     let whole = both (sector_check S ring v s ∷ []) (key_check S ring v k ∷ text_check S ring v t ∷ []) there (both (key_check S ring v k ∷ []) (text_check S ring v t ∷ []) known (text_passes S ring image t chunk.long)) in
     let last : List Check = dead_check S ring v s k ∷ [] in
     acts_refused S ring image (write s k t) (head ++ asked) last [] _ c.in_err-record.field-0.0 c.from_residual-in_err-record.result refl
-    (both head asked front whole) (rw (is.0, is.1) at c.in_err-record.ensures) c.from_residual-in_err-record.ensures.1
+    (both head asked front whole) (rw (own.0, own.1, own.2, is.0, is.1) at c.in_err-record.ensures) c.from_residual-in_err-record.ensures.1
 
 pub put_record-requires : goal.put_record-requires
 put_record-requires g c =
@@ -41,7 +42,7 @@ put_record-requires g c =
     let v = image_view S ring image in
     let s = c.args.sector in
     let is = c.in_ok-card.ensures.card in
-    let there = passed (sector_check S ring v s ∷ []) tt tt (rw is.0 at c.in_ok-has_sector.ensures) in
+    let there = passed (sector_check S ring v s ∷ []) tt tt (rw is.0 at c.in_ok-at.ensures.outcome) in
     inside S ring image c.in_ok-card.card.count s (rw is.0 at c.in_ok-card.card.fits) there
 
 pub returns : goal.returns
@@ -54,15 +55,16 @@ returns g c =
     let k = c.args.key in
     let t = c.args.text.now in
     let is = c.in_ok-card.ensures.card in
+    let own = c.in_ok-at.ensures.sector in
     let head = ring_and_image_checks S ring v in
     let front = passed head (count_of S.width image) c.in_ok-card.card.count c.in_ok-card.ensures.outcome in
-    let there = passed (sector_check S ring v s ∷ []) tt tt (rw is.0 at c.in_ok-has_sector.ensures) in
+    let there = passed (sector_check S ring v s ∷ []) tt tt (rw is.0 at c.in_ok-at.ensures.outcome) in
     let known = passed (key_check S ring v k ∷ []) tt tt (rw is.1 at c.in_ok-has_key.ensures) in
-    let chunk = rw c.in-Some.is at c.as_array.ensures.cases in
+    let chunk = rw c.in_ok-text.ensures.ok_part at c.as_array.ensures.cases in
     let asked : List Check = sector_check S ring v s ∷ key_check S ring v k ∷ text_check S ring v t ∷ [] in
     let whole = both (sector_check S ring v s ∷ []) (key_check S ring v k ∷ text_check S ring v t ∷ []) there (both (key_check S ring v k ∷ []) (text_check S ring v t ∷ []) known (text_passes S ring image t chunk.long)) in
     let last : List Check = dead_check S ring v s k ∷ [] in
-    let alive = ruled_ok last _ _ (sym (rw (is.0, is.1) at c.in_ok-record.ensures)) in
+    let alive = ruled_ok last _ _ (sym (rw (own.0, own.1, own.2, is.0, is.1) at c.in_ok-record.ensures)) in
     done S ring image (write s k t) c.put_record.new.image
     (accepted S ring image (write s k t) (head ++ (asked ++ last)) refl (both head (asked ++ last) front (both asked last whole alive.0)))
     (c.put_record.ensures ∙ ap (put_record S.width image s) (alive.1 ∙ ap (λ (x : List ℕ). record_of S ring v.number s (holds k x)) chunk.same))

@@ -3,14 +3,14 @@ use Rattle.std.proofs.Common.{length, drop, rules}
 use Rattle.layout.specs.Layout.{card_number_of, record_at}
 use Rattle.sector.specs.Rings.{ciphers_of}
 use Rattle.sector.proofs.Sources.{on_ring, dead_is, unsealed_is}
-use Rattle.sector.proofs.card.Card.text.Goals as goal
+use Rattle.sector.proofs.sector.Sector.text.Goals as goal
 
 pub returns-in_err-at : goal.returns-in_err-at
 returns-in_err-at g c =
     let F = g.C.Block.Block.ops in
     let ring = ciphers_of c.args.self.now.ring.now in
     let image = c.args.self.now.image.now in
-    let s = c.args.sector in
+    let s = c.args.self.now.number in
     let k = c.in-Sealed.key in
     let f = rw (c.in-Sealed.is, c.size.ensures, c.record-record.ensures) at c.in_ok-key.ensures in
     let l = on_ring (length ring) (record_at F.size image s) k f.1 f.2 in
@@ -22,10 +22,10 @@ returns g c =
     let F = g.C.Block.Block.ops in
     let ring = ciphers_of c.args.self.now.ring.now in
     let image = c.args.self.now.image.now in
-    let s = c.args.sector in
+    let s = c.args.self.now.number in
     let k = c.in-Sealed.key in
     let f = rw (c.in-Sealed.is, c.size.ensures, c.record-record.ensures) at c.in_ok-key.ensures in
     let l = on_ring (length ring) (record_at F.size image s) k f.1 f.2 in
     let d = dead_is F g.C.Cipher.enc g.C.Cipher.dec ring k c.sealer.result.cipher.now (card_number_of F.size image) s c.sealer.result.tweak l c.sealer.ensures.cipher c.sealer.ensures.tweak in
     let x = unsealed_is F g.C.Cipher.enc g.C.Cipher.dec ring k c.sealer.result.cipher.now (card_number_of F.size image) s c.sealer.result.tweak l c.sealer.ensures.cipher c.sealer.ensures.tweak (drop 2 (record_at F.size image s)) in
-    rw (f.0, f.1, ← f.2, d, x) (search rules)
+    record { key = l; text = rw (f.0, f.1, ← f.2, d, x) (search rules) }
