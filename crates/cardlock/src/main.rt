@@ -7,6 +7,7 @@ use calls::{Call, Step};
 use capi::whitened_under;
 use cipher::Cipher;
 use failure::Failure;
+use layout::SECTOR_LENGTH;
 use script::{CipherName, Command, Keys, Line, Problem, Source, Target, Told, Wrong, push_hex};
 use sector::Ring;
 use std::alloc::{AllocError, Global};
@@ -32,7 +33,7 @@ fn run(rt: &HostRuntime) -> anyhow::Result<()> {
         rt,
         image_name.as_str(),
         script_name.as_str(),
-        keys.cipher,
+        keys.cipher(),
         lines.as_slice(),
     )?;
     let mut steps = Vec::new(rt.alloc());
@@ -124,7 +125,7 @@ fn call_of(rt: &HostRuntime, command: &Command) -> anyhow::Result<Call> {
         }
         Command::Read { sector, .. } => Call::Read {
             sector: *sector,
-            buffer: vec![in heap; 0; 512]?,
+            buffer: vec![in heap; 0; SECTOR_LENGTH]?,
         },
         Command::Rekey { sector, key } => Call::Rekey {
             sector: *sector,
@@ -140,42 +141,30 @@ fn call_of(rt: &HostRuntime, command: &Command) -> anyhow::Result<Call> {
 
 // Makes the calls in turn, with the ring's ciphers.
 fn make(heap: Global, keys: &Keys, image: &mut [u8], steps: &mut [Step]) -> Result<(), AllocError> {
-    match keys.cipher {
-        CipherName::Aes => make_by(
+    match keys {
+        Keys::Aes(keys) => make_by(heap, keys.as_slice(), image, steps, Aes::new),
+        Keys::Xtea(keys) => make_by(heap, keys.as_slice(), image, steps, Xtea::new),
+        Keys::Whitened(keys) => make_by(
             heap,
-            keys,
+            keys.as_slice(),
             image,
             steps,
-            |key| Some(Aes::new(key.first_chunk()?)),
-        ),
-        CipherName::Xtea => make_by(
-            heap,
-            keys,
-            image,
-            steps,
-            |key| Some(Xtea::new(key.first_chunk()?)),
-        ),
-        CipherName::Whitened => make_by(
-            heap,
-            keys,
-            image,
-            steps,
-            |key| Some(whitened_under(key.first_chunk()?)),
+            |key| whitened_under(key),
         ),
     }
 }
 
 // Makes the calls in turn, with the cipher that each key gives.
-fn make_by<C: Cipher + Drop, F: FnMut(&Vec<u8>) -> Option<C>>(
+fn make_by<K, C: Cipher + Drop, F: FnMut(&K) -> C>(
     heap: Global,
-    keys: &Keys,
+    keys: &[K],
     image: &mut [u8],
     steps: &mut [Step],
     cipher_of: F,
 ) -> Result<(), AllocError>
     requires { (state : F) (key : _) → F.pre state key }
 {
-    let ciphers: Vec<C> = keys.keys.iter().filter_map(cipher_of).collect(heap)?;
+    let ciphers: Vec<C> = keys.iter().map(cipher_of).collect(heap)?;
     calls::run(image, &Ring::new(ciphers.as_slice()), steps);
     Ok(())
 }

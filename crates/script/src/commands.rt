@@ -1,7 +1,7 @@
 // A script: one call to a line. Blank lines and lines that begin with # say nothing.
 ghost use Rattle.std.specs.Prelude.{◌≤◌, IfOk};
 
-use crate::hex::from_hex;
+use crate::hex::spelled;
 use crate::lines::Statements;
 use crate::problems::{Problem, Wrong};
 use crate::sizes::MOST_SECTORS;
@@ -101,7 +101,7 @@ impl<'a> Words<'a> {
 
     // The bytes that a word of hexadecimal digits spells.
     fn spelled(&self, word: &str) -> Result<Vec<u8>, Problem> {
-        from_hex(self.heap, word.as_bytes())?.ok_or(Wrong::NotHex.on(self.line))
+        spelled(self.heap, word, self.line)
     }
 
     // The next word as a text's source: the file that it names after an @, or the bytes that it spells.

@@ -2,6 +2,7 @@
 ghost use Rattle.std.specs.Prelude.{◌≡◌, ℕ, ◌+◌, ◌*◌, ◌<◌, ◌≤◌, length, IfOk};
 ghost use Rattle.script.specs.Hex.{digit_value, byte_at, SpelledBy};
 
+use crate::problems::{Problem, Wrong};
 use std::alloc::{AllocError, Global};
 use std::fmt;
 
@@ -39,6 +40,11 @@ pub fn from_hex(heap: Global, text: &[u8]) -> Result<Option<Vec<u8>>, AllocError
         bytes.push(byte)?;
     }
     Ok(Some(bytes))
+}
+
+// The bytes that the digits on a line spell. Digits that spell none are told by the line's number.
+pub(crate) fn spelled(heap: Global, digits: &str, line: usize) -> Result<Vec<u8>, Problem> {
+    from_hex(heap, digits.as_bytes())?.ok_or(Wrong::NotHex.on(line))
 }
 
 // Adds the digits of bytes to a text.

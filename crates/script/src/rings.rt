@@ -1,9 +1,9 @@
 // A ring in a file: the cipher's name on a line, then a key to a line, in hexadecimal digits. Blank lines and lines that begin with # say nothing.
-ghost use Rattle.std.specs.Prelude.{◌≡◌, IfOk, vec_len};
-ghost use Rattle.script.specs.Names.{Named};
+ghost use Rattle.std.specs.Prelude.{◌≡◌};
+ghost use Rattle.script.specs.Names.{Named, cipher_of};
 ghost use Rattle.script.specs.Sizes.{key_length};
 
-use crate::hex::from_hex;
+use crate::hex::spelled;
 use crate::lines::Statements;
 use crate::problems::{Problem, Wrong};
 use std::alloc::Global;
@@ -28,11 +28,26 @@ impl CipherName {
     }
 }
 
-// The keys of a ring, in the order of their numbers.
+// The keys of a ring, in the order of their numbers, each of its cipher's length.
 #[derive(Drop)]
-pub struct Keys {
-    pub cipher: CipherName,
-    pub keys: Vec<Vec<u8>>,
+pub enum Keys {
+    Aes(Vec<[u8; 16]>),
+    Xtea(Vec<[u8; 16]>),
+    // The key and the blocks before and after.
+    Whitened(Vec<[u8; 32]>),
+}
+
+impl Keys {
+    // The name of the cipher whose keys these are.
+    pub fn cipher(&self) -> CipherName
+        ensures { result ≡ cipher_of self.now }
+    {
+        match self {
+            Keys::Aes(_) => CipherName::Aes,
+            Keys::Xtea(_) => CipherName::Xtea,
+            Keys::Whitened(_) => CipherName::Whitened,
+        }
+    }
 }
 
 impl FromStr for CipherName {
@@ -51,32 +66,35 @@ impl FromStr for CipherName {
     }
 }
 
-// The key that a line's digits spell, of the cipher's length.
-fn parse_key(
+// The key of N bytes that a line's digits spell.
+fn parse_key<const N: usize>(heap: Global, digits: &str, line: usize) -> Result<[u8; N], Problem> {
+    let key = spelled(heap, digits, line)?;
+    let bytes = key.as_slice().as_array();
+    bytes.copied().ok_or(Wrong::KeyLength.on(line))
+}
+
+// The keys of N bytes that the lines spell, a key to a line.
+fn parse_keys<const N: usize>(
     heap: Global,
-    cipher: CipherName,
-    digits: &str,
-    line: usize,
-) -> Result<Vec<u8>, Problem>
-    ensures { IfOk result (λ key. vec_len key ≡ key_length cipher) }
-{
-    let key = from_hex(heap, digits.as_bytes())?.ok_or(Wrong::NotHex.on(line))?;
-    if key.len() != cipher.key_length() {
-        return Err(Wrong::KeyLength.on(line));
+    lines: Statements<'_>,
+) -> Result<Vec<[u8; N]>, Problem> {
+    let mut keys = Vec::new(heap);
+    for (line, digits) in lines {
+        keys.push(parse_key(heap, digits, line)?)?;
     }
-    Ok(key)
+    Ok(keys)
 }
 
 // The ring that a file's text gives. A wrong line is told by its number.
 pub fn parse_ring(heap: Global, text: &str) -> Result<Keys, Problem> {
     let mut lines = Statements::new(text);
-    let Some((line, name)) = lines.next() else {
-        return Err(Wrong::NoCipher.on(text.lines().count()));
-    };
+    let (line, name) = lines
+        .next()
+        .ok_or_else(|| Wrong::NoCipher.on(text.lines().count()))?;
     let cipher: CipherName = name.parse().map_err(|wrong: Wrong| wrong.on(line))?;
-    let mut keys = Vec::new(heap);
-    for (line, digits) in lines {
-        keys.push(parse_key(heap, cipher, digits, line)?)?;
-    }
-    Ok(Keys { cipher, keys })
+    Ok(match cipher {
+        CipherName::Aes => Keys::Aes(parse_keys(heap, lines)?),
+        CipherName::Xtea => Keys::Xtea(parse_keys(heap, lines)?),
+        CipherName::Whitened => Keys::Whitened(parse_keys(heap, lines)?),
+    })
 }

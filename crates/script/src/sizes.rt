@@ -1,4 +1,6 @@
 // The sizes of images that a script's formats ask for.
+// Kept: the numbers of a card's layout are written here too, since this crate uses `fault` alone and no block kinds, by which `layout` gives its lengths; and a
+// script may ask for one sector more than a card has.
 ghost use Rattle.std.specs.Prelude.{◌≡◌, ℕ, ◌+◌, ◌*◌, ◌≤◌};
 ghost use Rattle.script.specs.Sizes.{block_length, image_length, wanted, first_wanted, first_other};
 
