@@ -26,8 +26,8 @@ pub struct Entries<'a> {
     // How many sectors the card has.
     count: usize,
     // A card has no more sectors than this, and the records to come are of its sectors.
-    ghost few: { count ≤ most_sectors },
-    ghost within: { enumerate_count records + length (iter_rest (enumerate_source records)) ≤ count },
+    pub ghost few: { count ≤ most_sectors },
+    pub ghost within: { enumerate_count records + length (iter_rest (enumerate_source records)) ≤ count },
 }
 
 impl Entries<'_> {
