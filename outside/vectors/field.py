@@ -40,11 +40,9 @@ def elements(n, pick):
     return fixed + [pick.getrandbits(n) for _ in range(6)]
 
 
-def words(v, n):
-    """An element as the arguments of its test: one word, or two."""
-    if n == 64:
-        return f"0x{v:016x}"
-    return f"0x{v >> 64:016x}, 0x{v & (1 << 64) - 1:016x}"
+def number(v, n):
+    """An element's number, with all the digits of its kind."""
+    return f"0x{v:0{n // 4}x}"
 
 
 def main():
@@ -53,15 +51,15 @@ def main():
         some = elements(n, pick)
         print(f"// {name}: a, b, a b")
         for a, b in zip(some, some[::-1]):
-            print(f"    ({words(a, n)}, {words(b, n)}, {words(product(a, b, modulus), n)}),")
+            print(f"    [{number(a, n)}, {number(b, n)}, {number(product(a, b, modulus), n)}],")
         print(f"// {name}: a, its inverse")
         for a in some[1:]:
             inverse = power(a, (1 << n) - 2, modulus)
             assert product(a, inverse, modulus) == 1
-            print(f"    ({words(a, n)}, {words(inverse, n)}),")
+            print(f"    [{number(a, n)}, {number(inverse, n)}],")
         print(f"// {name}: k, x^k")
         for k in (0, 1, n - 1, n, n + 1, 2 * n, 200, 255):
-            print(f"    ({k}, {words(power(2, k, modulus), n)}),")
+            print(f"    ({k}, {number(power(2, k, modulus), n)}),")
 
 
 if __name__ == "__main__":
