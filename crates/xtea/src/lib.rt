@@ -1,11 +1,11 @@
 // XTEA: a cipher of the short kind, 32 cycles on two words of 32 bits under a key of four.
 #![tactic(auto)]
 
-ghost use Rattle.std.specs.Prelude.{◌≡◌, ℕ, ◌+◌, ◌≤◌, length};
+ghost use Rattle.std.specs.Prelude.{◌≡◌};
 ghost use Rattle.std.specs.Iterator.{ActsAs};
 ghost use Rattle.xtea.specs.Blocks.{encrypted, decrypted};
 ghost use Rattle.xtea.specs.Repeat.{repeat};
-ghost use Rattle.xtea.specs.Xtea.{mix, cycle, inv_cycle, word_at, key_words, start, bytes_of, encipher, decipher};
+ghost use Rattle.xtea.specs.Xtea.{mix, cycle, inv_cycle, key_words, start, bytes_of, encipher, decipher};
 ghost use Rattle.cipher.proofs.Through.{through_undone};
 ghost use Rattle.kind.specs.Polynomials.{short_ops};
 ghost use Rattle.xtea.specs.Undone.{encipher_bytes, encipher_undone, decipher_bytes, decipher_undone};
@@ -41,8 +41,9 @@ impl Xtea {
     pub fn new(key: &[u8; 16]) -> Xtea
         ensures { result.key ≡ key_words key.now }
     {
+        let (words, _) = key.as_chunks();
         Xtea {
-            key: array::from_fn(|i| word_at(key, 4 * i)),
+            key: array::from_fn(|i| u32::from_be_bytes(words[i])),
         }
     }
 }
@@ -89,6 +90,8 @@ impl Xtea {
             .bytes()
     }
 
+    // Kept: a cycle and its undoing each as the published rule has it: backwards the steps come in the other order and subtract, so a direction as a parameter would switch at every step.
+
     // One cycle: each word grows by what the other one, the sum and a word of the key make.
     fn cycle(&self, w: State) -> State
         ensures { result ≡ cycle self.now.key w }
@@ -121,9 +124,10 @@ impl State {
     fn new(bytes: [u8; 8], s: u32) -> State
         ensures { result ≡ start s bytes }
     {
+        let (words, _) = bytes.as_chunks();
         State {
-            v0: word_at(&bytes, 0),
-            v1: word_at(&bytes, 4),
+            v0: u32::from_be_bytes(words[0]),
+            v1: u32::from_be_bytes(words[1]),
             s,
         }
     }
@@ -152,14 +156,6 @@ fn mixed(v: u32, s: u32, k: u32) -> u32
     ensures { result ≡ mix v s k }
 {
     ((v << 4) ^ (v >> 5)).wrapping_add(v) ^ s.wrapping_add(k)
-}
-
-// The big-endian word of the four bytes from place i on.
-fn word_at(bytes: &[u8], i: usize) -> u32
-    requires { i + 4 ≤ length bytes.now }
-    ensures { result ≡ word_at bytes.now i }
-{
-    u32::from_be_bytes(bytes[i..i + 4].try_into().unwrap())
 }
 
 #[cfg(test)]

@@ -16,7 +16,7 @@ const VECTORS: [([u8; 16], u64, u64); 6] = [
 fn published_blocks(rt: HostRuntime) {
     for (key, plain, sealed) in VECTORS {
         let c = Xtea::new(&key);
-        assert_eq!(rt; c.encrypt(Short { word: plain }).word, sealed);
-        assert_eq!(rt; c.decrypt(Short { word: sealed }).word, plain);
+        assert_eq!(rt; u64::from(c.encrypt(Short::from(plain))), sealed);
+        assert_eq!(rt; u64::from(c.decrypt(Short::from(sealed))), plain);
     }
 }
