@@ -45,6 +45,8 @@ impl Cipher for Aes {
 }
 
 impl Aes {
+    // Kept: the cipher and the inverse cipher each as FIPS 197 has it: other steps, in another order, with the round keys from the other end.
+
     // The cipher of FIPS 197 on the bytes of a block.
     fn encrypt_bytes(&self, s: [u8; 16]) -> [u8; 16]
         ensures { result ≡ cipher self.now.keys s }

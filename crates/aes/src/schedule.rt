@@ -29,7 +29,7 @@ fn expand_key(key: &[u8; 16]) -> [u8; 176]
     // Kept: the words by their numbers, up to 43, as the standard has them: word i is made of the words i - 4 and i - 1, which no iterator over words gives.
     for i in 4..44usize {
         let [a, b, c, d] = next_word(&w, i);
-        // Kept: with `copy_from_slice` for the four writes, making a cipher and enciphering one block takes 7 % longer.
+        // Kept: with `copy_from_slice` for the four writes, making a cipher and enciphering one block takes 7 % longer, and it must take no longer than with these.
         w[4 * i] = a;
         w[4 * i + 1] = b;
         w[4 * i + 2] = c;

@@ -6,41 +6,41 @@ use poly::Wide;
 #[derive(Clone, Copy)]
 struct Vector {
     key: [u8; 16],
-    plain: (u64, u64),
-    sealed: (u64, u64),
+    plain: u128,
+    sealed: u128,
 }
 
 #[rattlefmt::skip]
 const VECTORS: [Vector; 6] = [
     Vector {
         key: [0x2b, 0x7e, 0x15, 0x16, 0x28, 0xae, 0xd2, 0xa6, 0xab, 0xf7, 0x15, 0x88, 0x09, 0xcf, 0x4f, 0x3c],
-        plain: (0x3243f6a8885a308d, 0x313198a2e0370734),
-        sealed: (0x3925841d02dc09fb, 0xdc118597196a0b32),
+        plain: 0x3243f6a8885a308d313198a2e0370734,
+        sealed: 0x3925841d02dc09fbdc118597196a0b32,
     },
     Vector {
         key: [0x00, 0x01, 0x02, 0x03, 0x04, 0x05, 0x06, 0x07, 0x08, 0x09, 0x0a, 0x0b, 0x0c, 0x0d, 0x0e, 0x0f],
-        plain: (0x0011223344556677, 0x8899aabbccddeeff),
-        sealed: (0x69c4e0d86a7b0430, 0xd8cdb78070b4c55a),
+        plain: 0x00112233445566778899aabbccddeeff,
+        sealed: 0x69c4e0d86a7b0430d8cdb78070b4c55a,
     },
     Vector {
         key: [0x2b, 0x7e, 0x15, 0x16, 0x28, 0xae, 0xd2, 0xa6, 0xab, 0xf7, 0x15, 0x88, 0x09, 0xcf, 0x4f, 0x3c],
-        plain: (0x6bc1bee22e409f96, 0xe93d7e117393172a),
-        sealed: (0x3ad77bb40d7a3660, 0xa89ecaf32466ef97),
+        plain: 0x6bc1bee22e409f96e93d7e117393172a,
+        sealed: 0x3ad77bb40d7a3660a89ecaf32466ef97,
     },
     Vector {
         key: [0x2b, 0x7e, 0x15, 0x16, 0x28, 0xae, 0xd2, 0xa6, 0xab, 0xf7, 0x15, 0x88, 0x09, 0xcf, 0x4f, 0x3c],
-        plain: (0xae2d8a571e03ac9c, 0x9eb76fac45af8e51),
-        sealed: (0xf5d3d58503b9699d, 0xe785895a96fdbaaf),
+        plain: 0xae2d8a571e03ac9c9eb76fac45af8e51,
+        sealed: 0xf5d3d58503b9699de785895a96fdbaaf,
     },
     Vector {
         key: [0x2b, 0x7e, 0x15, 0x16, 0x28, 0xae, 0xd2, 0xa6, 0xab, 0xf7, 0x15, 0x88, 0x09, 0xcf, 0x4f, 0x3c],
-        plain: (0x30c81c46a35ce411, 0xe5fbc1191a0a52ef),
-        sealed: (0x43b1cd7f598ece23, 0x881b00e3ed030688),
+        plain: 0x30c81c46a35ce411e5fbc1191a0a52ef,
+        sealed: 0x43b1cd7f598ece23881b00e3ed030688,
     },
     Vector {
         key: [0x2b, 0x7e, 0x15, 0x16, 0x28, 0xae, 0xd2, 0xa6, 0xab, 0xf7, 0x15, 0x88, 0x09, 0xcf, 0x4f, 0x3c],
-        plain: (0xf69f2445df4f9b17, 0xad2b417be66c3710),
-        sealed: (0x7b0c785e27e8ad3f, 0x8223207104725dd4),
+        plain: 0xf69f2445df4f9b17ad2b417be66c3710,
+        sealed: 0x7b0c785e27e8ad3f8223207104725dd4,
     },
 ];
 
@@ -60,22 +60,12 @@ const EXPANDED: [u8; 176] = [
     0xd0, 0x14, 0xf9, 0xa8, 0xc9, 0xee, 0x25, 0x89, 0xe1, 0x3f, 0x0c, 0xc8, 0xb6, 0x63, 0x0c, 0xa6,
 ];
 
-// The block of two words.
-fn block((high, low): (u64, u64)) -> Wide {
-    Wide { high, low }
-}
-
-// The two words of a block.
-fn words(b: Wide) -> (u64, u64) {
-    (b.high, b.low)
-}
-
 #[test]
 fn published_blocks(rt: HostRuntime) {
     for v in VECTORS {
         let c = Aes::new(&v.key);
-        assert_eq!(rt; words(c.encrypt(block(v.plain))), v.sealed);
-        assert_eq!(rt; words(c.decrypt(block(v.sealed))), v.plain);
+        assert_eq!(rt; u128::from(c.encrypt(Wide::from(v.plain))), v.sealed);
+        assert_eq!(rt; u128::from(c.decrypt(Wide::from(v.sealed))), v.plain);
     }
 }
 

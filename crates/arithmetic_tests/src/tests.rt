@@ -172,7 +172,7 @@ const WIDE_POWERS: [(usize, u128); 8] = [
 ];
 
 // Each product of the table, in the kind K whose elements' numbers are of the type N.
-fn products<K, N, const R: usize>(table: &[[N; 3]; R]) -> Result<(), Fail>
+fn products<K, N>(table: &[[N; 3]]) -> Result<(), Fail>
 where
     K: Block + From<N>,
     N: Copy + PartialEq + From<K>,
@@ -187,7 +187,7 @@ where
 }
 
 // Each inverse of the table, and that zero has none.
-fn inverses<K, N, const R: usize>(table: &[[N; 2]; R]) -> Result<(), Fail>
+fn inverses<K, N>(table: &[[N; 2]]) -> Result<(), Fail>
 where
     K: Block + From<N>,
     N: Copy + PartialEq + From<K>,
@@ -207,7 +207,7 @@ where
 }
 
 // Each power of x of the table.
-fn powers<K, N, const R: usize>(table: &[(usize, N); R]) -> Result<(), Fail>
+fn powers<K, N>(table: &[(usize, N)]) -> Result<(), Fail>
 where
     K: Block,
     N: Copy + PartialEq + From<K>,
@@ -223,30 +223,30 @@ where
 
 #[test]
 fn short_products() -> Result<(), Fail> {
-    products::<Short, u64, 12>(&SHORT_PRODUCTS)
+    products::<Short, u64>(&SHORT_PRODUCTS)
 }
 
 #[test]
 fn short_inverses() -> Result<(), Fail> {
-    inverses::<Short, u64, 11>(&SHORT_INVERSES)
+    inverses::<Short, u64>(&SHORT_INVERSES)
 }
 
 #[test]
 fn short_powers() -> Result<(), Fail> {
-    powers::<Short, u64, 8>(&SHORT_POWERS)
+    powers::<Short, u64>(&SHORT_POWERS)
 }
 
 #[test]
 fn wide_products() -> Result<(), Fail> {
-    products::<Wide, u128, 12>(&WIDE_PRODUCTS)
+    products::<Wide, u128>(&WIDE_PRODUCTS)
 }
 
 #[test]
 fn wide_inverses() -> Result<(), Fail> {
-    inverses::<Wide, u128, 11>(&WIDE_INVERSES)
+    inverses::<Wide, u128>(&WIDE_INVERSES)
 }
 
 #[test]
 fn wide_powers() -> Result<(), Fail> {
-    powers::<Wide, u128, 8>(&WIDE_POWERS)
+    powers::<Wide, u128>(&WIDE_POWERS)
 }
