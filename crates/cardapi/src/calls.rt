@@ -18,7 +18,7 @@ pub fn format<C: Cipher>(image: &mut [u8], number: &[u8]) -> Result<(), Fault>
     card::format::<C>(image, number)
 }
 
-// Kept: each call takes its ring from the array, since a struct of the ciphers and their number owes at each use that it fits in memory (C is a parameter).
+// Kept: tried: each call makes its ring of the array: a struct of the ciphers and their number owes at each use that it fits in memory, which `Keyed`'s law `small` says of the array alone, and a function that takes the card's call as a closure loses what the image holds after it.
 
 // Accepts the image exactly where it is the card of some sheet.
 pub fn open<C: Keyed>(keys: &[C::Key], image: &[u8]) -> Result<(), Fault>

@@ -41,6 +41,7 @@ pub trait Cipher {
 }
 
 // The bytes of a block as an array, for a cipher that is defined on bytes.
+// Kept: tried: a cipher on bytes has an `encrypt` and a `decrypt` of one line each; one function for both, over the map of `[u8; N]` as a closure, is refused, since the borrow checker does not cover a closure whose arrays have a const parameter's length.
 pub fn bytes_of<K: Block, const N: usize>(b: K) -> [u8; N]
     requires { K.ops.size ≡ N }
     ensures { result ≡ K.ops.bytes b }

@@ -72,6 +72,8 @@ pub enum Fault {
     },
 }
 
+// Kept: `number`, `sentence`, `layer` and `cause` on each of the two types: a trait for two types would state each of the four clauses a third time.
+
 impl SealFault {
     // The number of the refusal, 10 to 14.
     pub fn number(self) -> u8

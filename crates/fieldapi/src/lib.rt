@@ -8,7 +8,7 @@ ghost use Rattle.fieldapi.specs.Elements.{product, inverted, is_there};
 use kind::Block;
 use poly::{Short, Wide};
 
-// Kept: slices whose length the next two ask for, as a block's own `load` and `store` do: an array's length can't be the size of a kind's block.
+// Kept: slices whose length the next two ask for, as a block's own `load` and `store` do: with `[u8; N]` for a const parameter N the premise would stay, as one that N is the size of the kind's block.
 
 // Puts the product of two elements in place of the second.
 fn multiply<K: Block>(a: &[u8], b: &mut [u8])

@@ -24,7 +24,7 @@ impl From<Short> for u64 {
     }
 }
 
-// Kept: not one impl with the wide kind's: the methods differ in the words they work on and the terms they fold by, and the rest is generic already.
+// Kept: an impl for each kind, with the same lines over `u64` here and `u128` in wides.rt: no trait of the library has the shifts, sums and leading zeros of both, and a trait of our own for them would have the same lines twice.
 impl Poly for Short {
     ghost width = { 64 };
 

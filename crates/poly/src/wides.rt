@@ -27,7 +27,7 @@ impl From<u128> for Wide {
     }
 }
 
-// Kept: apart from the short kind's, for the reason that stands there.
+// Kept: an impl for each kind, with the same lines over `u128` here and `u64` in shorts.rt: no trait of the library has the shifts, sums and leading zeros of both, and a trait of our own for them would have the same lines twice.
 impl Poly for Wide {
     ghost width = { 128 };
 

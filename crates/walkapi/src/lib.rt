@@ -1,4 +1,4 @@
-// The walk for C: the whole image is walked first, and then each sector's byte is written.
+// The walk for C: the whole image is walked first, and then each sector's number is written.
 #![tactic(auto)]
 
 ghost use Rattle.std.specs.Prelude.{◌≡◌, OnOk};
@@ -13,7 +13,7 @@ use kind::Block;
 use layout::Entry;
 use poly::{Short, Wide};
 
-// The byte of a sector: its key number, or 255 where it is blank.
+// The number of a sector: its key number, or 255 where it is blank.
 // Kept: a number with 255 for blank, since C reads it, and a function, since a `From` would be between two types of other crates.
 fn code_of(entry: Entry<'_>) -> u64
     ensures { result ≡ code (held entry.entry) }
@@ -41,7 +41,7 @@ fn note_walk<K: Block>(image: &[u8], codes: &mut [u64]) -> Result<(), Fault>
 {
     for (sector, entry) in walk::walk::<K>(image)?.enumerate() {
         let code = code_of(entry?);
-        // Kept: an index, since `get_mut` of a slice, and `iter_mut` under a `zip`, tell a proof nothing of the elements that are written.
+        // Kept: tried: an index, since `get_mut` of a slice, and `iter_mut` under a `zip`, tell a proof nothing of the elements that are written.
         if sector < codes.len() {
             codes[sector] = code;
         }
