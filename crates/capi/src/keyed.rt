@@ -100,7 +100,8 @@ pub fn whitened_under(key: &[u8; 32]) -> Whitened<Xtea>
     ensures after { result.after ≡ short_ops.block (take 8 (drop 24 key.now)) }
 {
     let inner = Xtea::new(key.first_chunk().unwrap());
-    let before = Short::load(&key[16..24]);
-    let after = Short::load(&key[24..32]);
+    let (blocks, _) = key[16..].as_chunks::<8>();
+    let before = Short::load(&blocks[0]);
+    let after = Short::load(&blocks[1]);
     Whitened::new(inner, before, after)
 }
