@@ -68,7 +68,7 @@ pub fn begin<C: Cipher>(cipher: &C, tweak: &[u8], len: usize) -> Result<Begun<C:
     Ok(Stage { terms })
 }
 
-// Kept: three public passes with a contract each. A common function would be given the terms, the stage and the next one beside the pass, as `for_buffer` is.
+// Kept: three public passes with a contract each. A common function would be given the terms and the stage, as `for_buffer` is, and beside them the next stage and the pass: no shorter.
 
 // The first pass turns the text into the blocks PP (one block stays as it is). Refuses a buffer of another length than was begun (14): then it hands
 // the stage back and leaves every byte.
