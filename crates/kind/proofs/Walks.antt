@@ -5,11 +5,11 @@ use Rattle.kind.specs.Blocks.{blocks, flat, over, after}
 use Rattle.kind.proofs.Buffers.{blocks_length, bytes_from_blocks}
 use Rattle.kind.proofs.Overs.{At, at_next, at_all, at_end}
 
--- a walk with no state is a map
-pub map_over : {S K : Type 0} (e : K → K) (s : S) (xs : List K) → over (λ s b. e b) (λ s b. s) s xs ≡ map e xs
+-- a walk that changes no state is a map
+pub map_over : {S K : Type 0} (f : S → K → K) (s : S) (xs : List K) → over f (λ s b. s) s xs ≡ map (f s) xs
 unfolding over
-map_over e s [] = refl
-map_over e s (b ∷ xs) = ap (λ t. e b ∷ t) (map_over e s xs)
+map_over f s [] = refl
+map_over f s (b ∷ xs) = ap (λ t. f s b ∷ t) (map_over f s xs)
 
 module _ {K S : Type 0} (o : Ops K) (out : S → K → K) (next : S → K → S) (s₀ : S) (m : ℕ) (old : List ℕ) where
   -- where the walk of the buffer has come to

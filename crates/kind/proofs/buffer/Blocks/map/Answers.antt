@@ -25,5 +25,5 @@ returns g c e computes =
       count = so_far.1;
       bytes = done g.K.Block.ops (λ s b. e b) (λ s b. s) tt old.count old.bytes.now g.met.K.Block.laws now.count now.bytes.now c.loop-i.i tt
           so_far.1 (omega arith) now.whole now.octets (so_far.2 e computes)
-          ∙ ap (flat g.K.Block.ops) (map_over e tt (blocks g.K.Block.ops old.count old.bytes.now));
+          ∙ ap (flat g.K.Block.ops) (map_over (λ s b. e b) tt (blocks g.K.Block.ops old.count old.bytes.now));
     }
