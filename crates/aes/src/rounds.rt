@@ -1,6 +1,7 @@
 // The rounds of AES-128 on 16 bytes, and the cipher on blocks by their bytes.
 ghost use Rattle.std.specs.Prelude.{◌≡◌, map};
 ghost use Rattle.std.specs.List.{range_with_len};
+ghost use Rattle.cipher.specs.Bytes.{through_bytes};
 ghost use Rattle.aes.specs.Blocks.{encrypted, decrypted};
 ghost use Rattle.aes.specs.Cipher.{round_key, add_round_key, cipher, inv_cipher};
 ghost use Rattle.cipher.proofs.Through.{through_undone};
@@ -36,15 +37,31 @@ impl Cipher for Aes {
         (λ s l h. inv_cipher_undone c.keys c.bytes s (block_of s l h)) b };
 
     fn encrypt(&self, b: Wide) -> Wide {
-        Wide::load(&self.encrypt_bytes(bytes_of(b)))
+        self.encrypt_in(b)
     }
 
     fn decrypt(&self, b: Wide) -> Wide {
-        Wide::load(&self.decrypt_bytes(bytes_of(b)))
+        self.decrypt_in(b)
     }
 }
 
 impl Aes {
+    // The encryption of a block of any kind that has 16 bytes.
+    fn encrypt_in<K: Block>(&self, b: K) -> K
+        requires { K.ops.size ≡ 16 }
+        ensures { result ≡ through_bytes K.ops (cipher self.now.keys) b }
+    {
+        K::load(&self.encrypt_bytes(bytes_of(b)))
+    }
+
+    // The decryption of a block of any kind that has 16 bytes.
+    fn decrypt_in<K: Block>(&self, b: K) -> K
+        requires { K.ops.size ≡ 16 }
+        ensures { result ≡ through_bytes K.ops (inv_cipher self.now.keys) b }
+    {
+        K::load(&self.decrypt_bytes(bytes_of(b)))
+    }
+
     // Kept: the cipher and the inverse cipher each as FIPS 197 has it: other steps, in another order, with the round keys from the other end.
 
     // The cipher of FIPS 197 on the bytes of a block.

@@ -3,6 +3,7 @@
 
 ghost use Rattle.std.specs.Prelude.{◌≡◌};
 ghost use Rattle.std.specs.Iterator.{ActsAs};
+ghost use Rattle.cipher.specs.Bytes.{through_bytes};
 ghost use Rattle.xtea.specs.Blocks.{encrypted, decrypted};
 ghost use Rattle.xtea.specs.Repeat.{repeat};
 ghost use Rattle.xtea.specs.Xtea.{mix, cycle, inv_cycle, key_words, start, bytes_of, encipher, decipher};
@@ -65,15 +66,31 @@ impl Cipher for Xtea {
         (λ s l h. decipher_bytes c.key s) (decipher_undone c.key) b };
 
     fn encrypt(&self, b: Short) -> Short {
-        Short::load(&self.encrypt_bytes(bytes_of(b)))
+        self.encrypt_in(b)
     }
 
     fn decrypt(&self, b: Short) -> Short {
-        Short::load(&self.decrypt_bytes(bytes_of(b)))
+        self.decrypt_in(b)
     }
 }
 
 impl Xtea {
+    // The encryption of a block of any kind that has 8 bytes.
+    fn encrypt_in<K: Block>(&self, b: K) -> K
+        requires { K.ops.size ≡ 8 }
+        ensures { result ≡ through_bytes K.ops (encipher self.now.key) b }
+    {
+        K::load(&self.encrypt_bytes(bytes_of(b)))
+    }
+
+    // The decryption of a block of any kind that has 8 bytes.
+    fn decrypt_in<K: Block>(&self, b: K) -> K
+        requires { K.ops.size ≡ 8 }
+        ensures { result ≡ through_bytes K.ops (decipher self.now.key) b }
+    {
+        K::load(&self.decrypt_bytes(bytes_of(b)))
+    }
+
     // What 32 cycles make of the bytes of a block.
     fn encrypt_bytes(&self, bytes: [u8; 8]) -> [u8; 8]
         ensures { result ≡ encipher self.now.key bytes }
