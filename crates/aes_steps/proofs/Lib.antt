@@ -1,4 +1,5 @@
--- Lemmas: tables, products by constants, and each step undone by its inverse.
+-- Lemmas: arrays made by a function, tables, products by constants, and each step undone by its inverse.
+pub mod FromFn
 pub mod Table
 pub mod Products
 pub mod Tables

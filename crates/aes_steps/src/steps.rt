@@ -4,12 +4,13 @@ ghost use Rattle.aes_steps.specs.Steps.{state, sub_bytes, inv_sub_bytes, shift_r
 
 use crate::factors::times;
 use crate::sbox::{inv_s_box, s_box};
+use std::array;
 
 // SubBytes: every byte goes through the S-box.
 pub fn sub_bytes(s: [u8; 16]) -> [u8; 16]
     ensures { result ≡ sub_bytes s }
 {
-    s.map(s_box)
+    array::from_fn(|i| s_box(s[i]))
 }
 
 // InvSubBytes: every byte goes through the inverse S-box.

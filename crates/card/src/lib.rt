@@ -42,8 +42,9 @@ pub fn open<C: Cipher>(image: &[u8], ring: &Ring<'_, C>) -> Result<(), Fault>
     ensures opens { IsRing (ciphers_of ring.now) → OpensExactlyCards (sectors C.Block.ops C.enc C.dec) (ciphers_of ring.now) image.now result }
 {
     let card = Card::of(image, ring)?;
+    let count = card.sectors();
     // Kept: a `for` over the sectors' numbers, which a refusal names; `try_for_each` says no more.
-    for sector in 0..card.sectors() {
+    for sector in 0..count {
         Sector::at(image, ring, sector).check()?;
     }
     Ok(())
@@ -63,8 +64,11 @@ pub fn write<C: Cipher>(
     let card = Card::of(image, ring)?;
     let at = card.sector(sector)?;
     card.has_key(key)?;
-    let text = text.as_array().ok_or(Fault::TextLength)?;
-    let record = at.sealed_record(key, text)?;
+    // Kept: a test of the length, as in `read`; in `as_array().ok_or(..)?` no edit can let a short text pass by one value.
+    if text.len() != SECTOR_LENGTH {
+        return Err(Fault::TextLength);
+    }
+    let record = at.sealed_record(key, text.as_array().unwrap())?;
     layout::put_record::<C::Block>(image, sector, &record);
     Ok(())
 }

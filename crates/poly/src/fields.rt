@@ -92,7 +92,11 @@ impl Field for Wide {
     }
 
     fn read(from: &[u8]) -> Wide {
-        Wide::from(u128::from_be_bytes(from.try_into().unwrap()))
+        // Kept: the places written out, so that an edit can take one byte's place for another's, as none can in `try_into`.
+        Wide::from(u128::from_be_bytes([
+            from[0], from[1], from[2], from[3], from[4], from[5], from[6], from[7], from[8],
+            from[9], from[10], from[11], from[12], from[13], from[14], from[15],
+        ]))
     }
 
     fn write(self, into: &mut [u8]) {

@@ -36,14 +36,14 @@ returns-in_err-check g c =
     let v = image_view S ring image in
     let law = lawful_sectors g.met.C.Block.Block.laws g.C.Cipher.enc g.C.Cipher.dec g.met.C.Cipher.back g.met.C.Cipher.forth in
     let s = c.loop-sector.sector in
-    let n = c.sectors-sector-end.result in
+    let n = c.sectors-count.result in
     let f = c.in_err-check.field-0.0 in
     let p = err_from_is_err_and c.from_residual-in_err-check.result c.from_residual-in_err-check.ensures.1 in
     let o = ruled_ok (ring_and_image_checks S ring v) (count_of S.width image) c.in_ok-card.card.count (sym c.in_ok-card.ensures.outcome) in
     let m : n - s ≡ suc (n - s - 1) = omega arith in
     let e : Err f ≡ outcome_on S ring image opening =
     sym (ruled_on (ring_and_image_checks S ring v) (sector_checks S ring v 0 (count_of S.width image)) tt o.0
-    ∙ ap (λ (j : ℕ). verdict (sector_checks S ring v 0 j)) (sym (c.sectors-sector-end.ensures ∙ o.1))
+    ∙ ap (λ (j : ℕ). verdict (sector_checks S ring v 0 j)) (sym (c.sectors-count.ensures ∙ o.1))
     ∙ sym c.loop-sector.invariant
     ∙ ap (λ (j : ℕ). verdict (sector_checks S ring v s j)) m
     ∙ sector_refused S ring image v s (n - s - 1) f (rw (c.at.ensures.image, c.at.ensures.ring, c.at.ensures.number) at c.in_err-check.ensures)) in
@@ -57,7 +57,7 @@ loop-sector-preserved g c =
     let image = c.args.image.now in
     let v = image_view S ring image in
     let s = c.loop-sector.sector in
-    let n = c.sectors-sector-end.result in
+    let n = c.sectors-count.result in
     let m : n - s ≡ suc (n - (s + 1)) = omega arith in
     let i : s + 1 ≡ suc s = omega arith in
     let o = ruled_ok (sector_checks S ring v s 1) tt tt (sym (rw (c.at.ensures.image, c.at.ensures.ring, c.at.ensures.number) at c.in_ok-check.ensures)) in
@@ -74,12 +74,12 @@ returns g c =
     let v = image_view S ring image in
     let law = lawful_sectors g.met.C.Block.Block.laws g.C.Cipher.enc g.C.Cipher.dec g.met.C.Cipher.back g.met.C.Cipher.forth in
     let s = c.loop-sector.sector in
-    let n = c.sectors-sector-end.result in
+    let n = c.sectors-count.result in
     let o = ruled_ok (ring_and_image_checks S ring v) (count_of S.width image) c.in_ok-card.card.count (sym c.in_ok-card.ensures.outcome) in
     let m : n - s ≡ 0 = omega arith in
     let e : Ok tt ≡ outcome_on S ring image opening =
     sym (ruled_on (ring_and_image_checks S ring v) (sector_checks S ring v 0 (count_of S.width image)) tt o.0
-    ∙ ap (λ (j : ℕ). verdict (sector_checks S ring v 0 j)) (sym (c.sectors-sector-end.ensures ∙ o.1))
+    ∙ ap (λ (j : ℕ). verdict (sector_checks S ring v 0 j)) (sym (c.sectors-count.ensures ∙ o.1))
     ∙ sym c.loop-sector.invariant
     ∙ ap (λ (j : ℕ). verdict (sector_checks S ring v s j)) m) in
     let b : Bytes image = λ k. (c.type_inv.image k).fits in

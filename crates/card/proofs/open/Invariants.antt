@@ -11,4 +11,4 @@ abbrev pub invariant-loop-sector : goal.invariant-loop-sector
 invariant-loop-sector g l =
     let S = sectors g.C.Block.Block.ops g.C.Cipher.enc g.C.Cipher.dec in
     let v = image_view S (ciphers_of l.fn.ring) l.fn.image in
-    verdict (sector_checks S (ciphers_of l.fn.ring) v l.sector (l.sector-end - l.sector)) ≡ verdict (sector_checks S (ciphers_of l.fn.ring) v 0 l.sector-end)
+    verdict (sector_checks S (ciphers_of l.fn.ring) v l.sector (l.count - l.sector)) ≡ verdict (sector_checks S (ciphers_of l.fn.ring) v 0 l.count)

@@ -3,7 +3,7 @@ use Rattle.std.proofs.Common.{◌≡◌, ◌+◌, ◌*◌, ◌/◌, ◌%◌, get
 use lib.Bits.{bit_xor}
 use Rattle.aes_steps.specs.Steps.{at}
 use Rattle.aes.specs.Cipher.{add_round_key}
-use Rattle.aes.proofs.FromFn.{from_fn_is}
+use Rattle.aes_steps.proofs.FromFn.{from_fn_is}
 use Rattle.aes.proofs.rounds.add_round_key.Goals as goal
 
 pub returns : goal.returns
