@@ -2,7 +2,7 @@
 #![tactic(auto)]
 
 use aes::Aes;
-use anyhow::{Context, anyhow, bail};
+use anyhow::{anyhow, bail};
 use calls::{Call, Step};
 use capi::whitened_under;
 use cipher::Cipher;
@@ -23,7 +23,8 @@ fn main(rt: HostRuntime) -> Result<(), Failure> {
 
 // Runs the script that the program's words name, and prints what came of each call.
 fn run(rt: &HostRuntime) -> anyhow::Result<()> {
-    let words: Vec<String> = env::args(rt)?.collect(rt.alloc())?;
+    // One word more than there may be is enough to see that they are too many.
+    let words: Vec<String> = env::args(rt)?.take(5).collect(rt.alloc())?;
     let [_program, image_name, ring_name, script_name] = words.as_slice() else {
         bail!(USAGE);
     };
@@ -64,7 +65,15 @@ fn run(rt: &HostRuntime) -> anyhow::Result<()> {
 
 // The bytes of a file; an error names it.
 fn read_file(rt: &HostRuntime, name: &str) -> anyhow::Result<Vec<u8>> {
-    fs::read(rt, name).context(format_args!("{name}: cannot be read"))
+    fs::read(rt, name).map_err(|_| told(format!(in rt.alloc(); "{name}: cannot be read")))
+}
+
+// The error of this text, or that there was no memory for it.
+fn told(text: Result<String, AllocError>) -> anyhow::Error {
+    match text {
+        Ok(text) => anyhow!("{text}"),
+        Err(_) => anyhow!("there is no memory"),
+    }
 }
 
 // What the text of a file says, read by a parser; an error names the file.
@@ -75,8 +84,11 @@ fn load<T, F: FnOnce(Global, &str) -> Result<T, Problem>>(
 ) -> anyhow::Result<T>
     requires { F.IsAlwaysCallable parse }
 {
-    let text = fs::read_to_string(rt, name).context(format_args!("{name}: cannot be read"))?;
-    parse(rt.alloc(), text.as_str()).map_err(|problem| anyhow!("{name}: {problem}"))
+    let heap = rt.alloc();
+    let text = fs::read_to_string(rt, name).map_err(|_| told(format!(in heap;
+        "{name}: cannot be read"
+    )))?;
+    parse(heap, text.as_str()).map_err(|problem| told(format!(in heap; "{name}: {problem}")))
 }
 
 // The bytes that the script runs on: those of the file, or, where the script begins with a format for another size, as many zeros as that card has bytes.
@@ -99,7 +111,7 @@ fn load_image(
             line,
             wrong: Wrong::OtherSectors,
         };
-        bail!("{script_name}: {problem}");
+        return Err(told(format!(in rt.alloc(); "{script_name}: {problem}")));
     }
     Ok(found)
 }
