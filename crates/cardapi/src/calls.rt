@@ -5,7 +5,7 @@ ghost use Rattle.sheet.specs.Promise.{format as Formatting, opening as Opening, 
 ghost use Rattle.capi.specs.Outcomes.{outcome};
 ghost use Rattle.cardapi.specs.Cards.{OnRing, Acted, WasRead};
 
-use crate::rings::ciphers_of;
+use crate::rings::{check_number, ciphers_of};
 use capi::Keyed;
 use cipher::Cipher;
 use fault::Fault;
@@ -24,7 +24,8 @@ pub fn format<C: Cipher>(image: &mut [u8], number: &[u8]) -> Result<(), Fault>
 pub fn open<C: Keyed>(keys: &[C::Key], image: &[u8]) -> Result<(), Fault>
     ensures { OnRing C.held C.made keys.now (λ ring. Acted (sectors C.Block.ops C.enc C.dec) ring image.now Opening (outcome result) image.now) (outcome result) (Unit {0}) }
 {
-    let ciphers = ciphers_of::<C>(keys)?;
+    check_number(keys)?;
+    let ciphers = ciphers_of::<C>(keys);
     card::open(image, &Ring::new(&ciphers[..keys.len()]))
 }
 
@@ -38,7 +39,8 @@ pub fn write<C: Keyed>(
 ) -> Result<(), Fault>
     ensures { OnRing C.held C.made keys.now (λ ring. Acted (sectors C.Block.ops C.enc C.dec) ring image.old (Writing sector key text.now) (outcome result) image.new) (outcome result) (image.new ≡ image.old) }
 {
-    let ciphers = ciphers_of::<C>(keys)?;
+    check_number(keys)?;
+    let ciphers = ciphers_of::<C>(keys);
     card::write(image, &Ring::new(&ciphers[..keys.len()]), sector, key, text)
 }
 
@@ -51,7 +53,8 @@ pub fn read<C: Keyed>(
 ) -> Result<(), Fault>
     ensures { OnRing C.held C.made keys.now (λ ring. WasRead (sectors C.Block.ops C.enc C.dec) ring image.now sector buffer.old (outcome result) buffer.new) (outcome result) (buffer.new ≡ buffer.old) }
 {
-    let ciphers = ciphers_of::<C>(keys)?;
+    check_number(keys)?;
+    let ciphers = ciphers_of::<C>(keys);
     card::read(image, &Ring::new(&ciphers[..keys.len()]), sector, buffer)
 }
 
@@ -64,7 +67,8 @@ pub fn rekey<C: Keyed>(
 ) -> Result<(), Fault>
     ensures { OnRing C.held C.made keys.now (λ ring. Acted (sectors C.Block.ops C.enc C.dec) ring image.old (Rekeying sector key) (outcome result) image.new) (outcome result) (image.new ≡ image.old) }
 {
-    let ciphers = ciphers_of::<C>(keys)?;
+    check_number(keys)?;
+    let ciphers = ciphers_of::<C>(keys);
     card::rekey(image, &Ring::new(&ciphers[..keys.len()]), sector, key)
 }
 
@@ -77,7 +81,8 @@ pub fn copy<C: Keyed>(
 ) -> Result<(), Fault>
     ensures { OnRing C.held C.made keys.now (λ ring. Acted (sectors C.Block.ops C.enc C.dec) ring image.old (Copying source destination) (outcome result) image.new) (outcome result) (image.new ≡ image.old) }
 {
-    let ciphers = ciphers_of::<C>(keys)?;
+    check_number(keys)?;
+    let ciphers = ciphers_of::<C>(keys);
     card::copy(
         image,
         &Ring::new(&ciphers[..keys.len()]),

@@ -37,6 +37,7 @@ impl<'a, C: Cipher> Work<'a, C> {
     }
 
     // Multiplies the block at each place i, counted from 0, by r to the power i.
+    #[inline(always)]
     pub fn multiply_by_powers(&mut self, r: C::Block)
         ensures { Changed (times_powers C.Block.ops r) self.old self.new }
     {
@@ -46,6 +47,7 @@ impl<'a, C: Cipher> Work<'a, C> {
 
     // Adds its mask to each block. One block gets `single`; from two blocks up the masks are made from M = E(the sum of the blocks and `end`).
     // Kept: three ways with a walk each, as the mode has them. One walk would need one state for the pair and the run, a fourth case of `Masks`.
+    #[inline(always)]
     pub fn add_masks(&mut self, single: C::Block, end: C::Block)
         ensures { Changed (masked C.Block.ops (C.enc self.old.cipher.now) (mask C.Block.ops self.old.terms.now single) end) self.old self.new }
     {

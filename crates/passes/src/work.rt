@@ -16,6 +16,8 @@ pub struct Work<'a, C: Cipher> {
     pub ghost whole: { length bytes.now ≡ terms.now.m * C.Block.ops.size },
 }
 
+// `walk` and `map`, and in changes.rt what a pass calls, are compiled where they are called: in a work that is handed to a function stands the address of the
+// cipher, and the compiler then makes a second copy of a cipher that its caller has just made, for which it calls C's `memcpy`.
 impl<'a, C: Cipher> Work<'a, C> {
     ghost use Rattle.kind.specs.Blocks.{over};
     ghost use Rattle.passes.specs.Changed.{Changed};
@@ -37,6 +39,7 @@ impl<'a, C: Cipher> Work<'a, C> {
     }
 
     // Takes the step at each block, first to last, and puts what it gives in the block's place.
+    #[inline(always)]
     pub(crate) fn walk<S: Step<C::Block>>(&mut self, s: &mut S)
         ensures { Changed (over S.out S.next s.old) self.old self.new }
     {
@@ -45,6 +48,7 @@ impl<'a, C: Cipher> Work<'a, C> {
     }
 
     // Puts f of each block in its place, f being any map e on blocks.
+    #[inline(always)]
     pub(crate) fn map<F: Fn(C::Block) -> C::Block>(&mut self, f: F)
         requires { F.IsAlwaysCallable f }
         ensures { (e : _ → _) → ((b r : _) → F.post f b r → r ≡ e b) → Changed (map e) self.old self.new }
