@@ -1,7 +1,7 @@
 // One sector of an image under a ring.
-ghost use Rattle.std.specs.Prelude.{◌≡◌, ◌<◌, ◌≤◌, [], ◌∷◌, length, IfOk, slice_index_or};
+ghost use Rattle.std.specs.Prelude.{◌≡◌, ◌<◌, ◌≤◌, [], ◌∷◌, length, drop, IfOk, slice_index_or};
 ghost use Rattle.layout.specs.Checks.{ruled, verdict};
-ghost use Rattle.layout.specs.Layout.{most_keys, card_number_of};
+ghost use Rattle.layout.specs.Layout.{mark_length, most_keys, card_number_of, zeros};
 ghost use Rattle.layout.specs.Entries.{Inside};
 ghost use Rattle.sheet.specs.Sectors.{sector_tweak, sectors};
 ghost use Rattle.sheet.specs.Promise.{holds, key_of, text_of, dead_check, sector_checks, record_of};
@@ -14,7 +14,7 @@ use crate::sealer::Sealer;
 use cipher::Cipher;
 use fault::{At, Fault};
 use kind::Block;
-use layout::{Entry, RECORD_LENGTH, SECTOR_LENGTH};
+use layout::{Entry, MARK_LENGTH, RECORD_LENGTH, SECTOR_LENGTH};
 
 // A sector whose record lies inside the image. The ring may have any size, and the image any header.
 #[derive(Drop)]
@@ -62,7 +62,7 @@ impl<'a, C: Cipher> Sector<'a, C> {
         match layout::entry_of(record, self.ring.size(), self.number)? {
             // Kept: `walk` has this rule too, for eight keys and in words of its own; one function for both would state it in a third way, which is no plainer.
             Entry::Blank => {
-                if layout::all_zero(layout::behind_mark(record)) {
+                if is_zero(record) {
                     Ok(())
                 } else {
                     Err(Fault::BlankNotZero {
@@ -105,4 +105,11 @@ impl<'a, C: Cipher> Sector<'a, C> {
         self.sealer(key).seal(&mut sealed).at(self.number, key)?;
         Ok(layout::sealed_record(key, &sealed))
     }
+}
+
+// Whether all bytes of a record behind its mark are zero, as those of a blank one must be.
+fn is_zero(rec: &[u8; RECORD_LENGTH]) -> bool
+    ensures { result ≡ zeros (drop mark_length rec.now) }
+{
+    layout::all_zero(&rec[MARK_LENGTH..])
 }
