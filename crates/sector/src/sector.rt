@@ -74,7 +74,10 @@ impl<'a, C: Cipher> Sector<'a, C> {
         }
     }
 
+    // The next two are compiled where they are called: what they hand back are arrays as long as a sector, which would else stand on the stack once more.
+
     // The key number and the text. Refuses 7, 9, 'the sector is blank', and 13.
+    #[inline(always)]
     pub fn text(&self) -> Result<(usize, [u8; SECTOR_LENGTH]), Fault>
         ensures key { IfOk result (λ r. r.0 < length (ciphers_of self.now.ring.now)) }
         ensures text { let S = sectors C.Block.ops C.enc C.dec in let ring = ciphers_of self.now.ring.now in let v = image_view S ring self.now.image.now in result ≡ ruled (source_checks S ring v self.now.number) (key_of (v.sector self.now.number), text_of (v.sector self.now.number)) }
@@ -92,6 +95,7 @@ impl<'a, C: Cipher> Sector<'a, C> {
     }
 
     // The sector's record with this key number and this text. Refuses 13.
+    #[inline(always)]
     pub fn sealed_record(
         &self,
         key: usize,
